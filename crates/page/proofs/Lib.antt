@@ -1,0 +1,2 @@
+pub mod KindSearch
+pub mod PastEnd

@@ -1,0 +1,6 @@
+pub mod Bytes
+pub mod Kinds
+pub mod Headers
+pub mod LinePointers
+pub mod Versions
+pub mod Slots
