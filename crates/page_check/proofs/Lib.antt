@@ -1,0 +1,4 @@
+pub mod All
+pub mod OwnRules
+pub mod Marks
+pub mod Cells

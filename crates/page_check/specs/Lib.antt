@@ -1,3 +1,4 @@
 pub mod All
 pub mod Rules
 pub mod Lawful
+pub mod Marking
