@@ -77,6 +77,10 @@ firstTo-hit {A} f i (suc n) r h l e s =
     (λ q. or-some r (f (n + 1)) s ∙ ap (λ (o : Option A). orOther o (f (n + 1))) (firstTo-hit f i n r h (omega arith) e s))
     (cases-eq i n)
 
+-- nothing is found up to the end
+pub firstTo-end : {A : Type 0} (f : ℕ → Option A) (i n : ℕ) → firstTo f i ≡ None → i ≡ n → None ≡ firstTo f n
+firstTo-end f i n h e = sym h ∙ ap (firstTo f) e
+
 -- nothing is found exactly where nothing is to be found
 pub firstTo-each : {A : Type 0} (f : ℕ → Option A) (n : ℕ) → not (isSome (firstTo f n)) ≡ each (λ k. not (isSome (f k))) n
 firstTo-each f zero = refl

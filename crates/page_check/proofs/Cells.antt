@@ -140,11 +140,11 @@ module _ (p : List ℕ) (lie : AllLie p) (i : ℕ) (inside : i < countOf p) (cs 
        marks-more (cov p) 1024 i cs ds shows
         (λ x b. ap (λ (d : List Bool). getD d x false) e ∙ taken-at cs (pointerAt p (i + 1)) x len (lie i inside) b))
 
-  pub overlap-some : (c : ℕ) → c ≡ countOf p → firstTo (pageBreak 0 p NoOverlap) i ≡ None → false ≡ cellsFree cs (pointerAt p (i + 1))
-      → Some (Among (i + 1) NoOverlap) ≡ firstTo (pageBreak 0 p NoOverlap) c
-  overlap-some c same before f =
+  pub overlap-some : firstTo (pageBreak 0 p NoOverlap) i ≡ None → false ≡ cellsFree cs (pointerAt p (i + 1))
+      → Some (Among (i + 1) NoOverlap) ≡ firstTo (pageBreak 0 p NoOverlap) (countOf p)
+  overlap-some before f =
       let r = busy-at cs (pointerAt p (i + 1)) (lie i inside) (sym f) in
-      firstTo-hit (pageBreak 0 p NoOverlap) i c (Some (Among (i + 1) NoOverlap)) before (omega arith)
+      firstTo-hit (pageBreak 0 p NoOverlap) i (countOf p) (Some (Among (i + 1) NoOverlap)) before inside
       (break-some 0 p NoOverlap (i + 1)
         (each-before (λ j. apart (pointerAt p (i + 1)) (pointerAt p j)) i
         ∙ marks-busy (cov p) 1024 meets i cs shows (r .0) (r .1) (r .2) (r .3)

@@ -4,3 +4,4 @@ pub mod Marks
 pub mod Cells
 pub mod Slots
 pub mod Names
+pub mod Reports

@@ -133,12 +133,12 @@ module _ (b : ℕ) (p : List ℕ) (few : countOf p ≤ 291) (i : ℕ) (ns : List
        marks-more (says b p) 292 i ns ms shows
         (λ x l. ap (λ (d : List Bool). getD d x false) e ∙ taken-name ns (named b p i) x len le l (shows 0 (omega arith) ∙ none-zero b p i)))
 
-  pub names-some : (c : ℕ) → i < c → firstTo (pageBreak b p NamedOnce) i ≡ None → false ≡ nameFree ns (named b p i)
-      → Some (Among (i + 1) NamedOnce) ≡ firstTo (pageBreak b p NamedOnce) c
-  names-some c l before f =
+  pub names-some : i < countOf p → firstTo (pageBreak b p NamedOnce) i ≡ None → false ≡ nameFree ns (named b p i)
+      → Some (Among (i + 1) NamedOnce) ≡ firstTo (pageBreak b p NamedOnce) (countOf p)
+  names-some l before f =
       let le = small in
       let r = busy-name ns (named b p i) (sym f) in
-      firstTo-hit (pageBreak b p NamedOnce) i c (Some (Among (i + 1) NamedOnce)) before l
+      firstTo-hit (pageBreak b p NamedOnce) i (countOf p) (Some (Among (i + 1) NamedOnce)) before l
       (break-some b p NamedOnce (i + 1)
         (each-before (λ j. otherName (named b p i) (nameOf b (slotNo p) (slotNo p j))) i
         ∙ marks-busy (says b p) 292 differs i ns shows (named b p i) (omega arith) (r .0) (r .1)

@@ -43,14 +43,26 @@ ownBreak kinds p n l =
 abbrev pub pageBreak : ℕ → List ℕ → PageRule → ℕ → Option Broken
 pageBreak b p r n = cond (pageHolds b p n r) None (Some (Among n r))
 
--- the first broken rule: of the header; of a pointer alone, pointer by pointer; then rule by rule of the pointers among one another
+-- the first broken rule of the header
+abbrev pub headerBroken : List ℕ → Option Broken
+headerBroken p = mapped InHeader (firstOf (headerHolds (headerOf p)) headerRules)
+
+-- that of the pointers by themselves, pointer by pointer
+abbrev pub ownBroken : List Kind → List ℕ → Option Broken
+ownBroken kinds p = firstTo (λ n. ownBreak kinds p n (linePointerAt p n)) (countOf p)
+
+-- the first pointer that breaks the rule r among the others
+abbrev pub amongBroken : ℕ → List ℕ → PageRule → Option Broken
+amongBroken b p r = firstTo (pageBreak b p r) (countOf p)
+
+-- the first broken rule of the page of block b
 abbrev pub firstBroken : List Kind → ℕ → List ℕ → Option Broken
 firstBroken kinds b p =
-    orOther (mapped InHeader (firstOf (headerHolds (headerOf p)) headerRules))
-    (orOther (firstTo (λ n. ownBreak kinds p n (linePointerAt p n)) (countOf p))
-    (orOther (firstTo (pageBreak b p NoOverlap) (countOf p))
-    (orOther (firstTo (pageBreak b p RedirectTarget) (countOf p))
-    (firstTo (pageBreak b p NamedOnce) (countOf p)))))
+    orOther (headerBroken p)
+    (orOther (ownBroken kinds p)
+    (orOther (amongBroken b p NoOverlap)
+    (orOther (amongBroken b p RedirectTarget)
+    (amongBroken b p NamedOnce))))
 
 -- what a report says: the rule does not hold at its place
 abbrev pub Fails : List Kind → ℕ → List ℕ → Broken → Type 0

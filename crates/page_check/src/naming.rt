@@ -4,9 +4,8 @@ ghost use Prim.Native.Nat.{_≤_};
 ghost use Rattle.page.specs.Headers.{countOf};
 ghost use Rattle.page.specs.LinePointers.{pointerAt};
 ghost use Rattle.page.specs.Slots.{slotOf, slotNo};
-ghost use Rattle.page_check.specs.All.{firstTo};
 ghost use Rattle.page_check.specs.Rules.{isHeapOnly, isMadeBy, nameOf, leadsWell};
-ghost use Rattle.page_check.specs.Lawful.{pageBreak};
+ghost use Rattle.page_check.specs.Lawful.{amongBroken};
 ghost use Rattle.page_check.specs.Marking.{AllLie, headerNo, nameFree, nameTaken};
 ghost use Rattle.page_check.specs.declared.rules.PageRule.the-variants.{RedirectTarget, NamedOnce};
 use crate::rules::Broken;
@@ -96,7 +95,7 @@ pub(crate) fn first_stray_redirect(page: &Page, count: u16) -> Option<Broken>
     requires few { ⌜ count ≤ 291 ⌝ }
     requires count { ⌜ count ≡ countOf (now page) ⌝ }
     requires lie { ⌜ AllLie (now page) ⌝ }
-    ensures { λ r. ⌜ r ≡ firstTo (pageBreak 0 (now (page .entry)) RedirectTarget) count ⌝ }
+    ensures { λ r. ⌜ r ≡ amongBroken 0 (now (page .entry)) RedirectTarget ⌝ }
 {
     for i in 0..count {
         if !leads_well(page, count, i + 1) {
@@ -125,7 +124,7 @@ pub(crate) fn first_named_twice(page: &Page, block: u32, count: u16) -> Option<B
     requires few { ⌜ count ≤ 291 ⌝ }
     requires count { ⌜ count ≡ countOf (now page) ⌝ }
     requires lie { ⌜ AllLie (now page) ⌝ }
-    ensures { λ r. ⌜ r ≡ firstTo (pageBreak block (now (page .entry)) NamedOnce) count ⌝ }
+    ensures { λ r. ⌜ r ≡ amongBroken block (now (page .entry)) NamedOnce ⌝ }
 {
     let mut named = [false; 292];
     for i in 0..count {

@@ -2,8 +2,7 @@
 ghost use mathlib.Core.Path.{_≡_};
 ghost use Prim.Native.Nat.{_≤_};
 ghost use Rattle.page.specs.Headers.{countOf};
-ghost use Rattle.page_check.specs.All.{firstTo};
-ghost use Rattle.page_check.specs.Lawful.{pageBreak};
+ghost use Rattle.page_check.specs.Lawful.{amongBroken};
 ghost use Rattle.page_check.specs.Marking.{LiesIn, AllLie, freeTo, cellsFree, cellsTaken};
 ghost use Rattle.page_check.specs.declared.rules.PageRule.the-variants.{NoOverlap};
 use crate::rules::Broken;
@@ -45,7 +44,7 @@ pub(crate) fn first_overlap(page: &Page, count: u16) -> Option<Broken>
     requires few { ⌜ count ≤ 291 ⌝ }
     requires count { ⌜ count ≡ countOf (now page) ⌝ }
     requires lie { ⌜ AllLie (now page) ⌝ }
-    ensures { λ r. ⌜ r ≡ firstTo (pageBreak 0 (now (page .entry)) NoOverlap) count ⌝ }
+    ensures { λ r. ⌜ r ≡ amongBroken 0 (now (page .entry)) NoOverlap ⌝ }
 {
     let mut cells = [false; 1024];
     for i in 0..count {

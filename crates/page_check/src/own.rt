@@ -3,11 +3,12 @@ ghost use mathlib.Core.Path.{_≡_};
 ghost use mathlib.Core.Bool.{true};
 ghost use Prim.Native.Nat.{_+_, _≤_};
 ghost use lib.ListN.{length};
-ghost use Rattle.page_check.specs.All.{firstOf, firstTo};
+ghost use Rattle.page_check.specs.All.{firstOf};
 ghost use Rattle.page_check.specs.Rules.{headerHolds, headerRules, onlyNamedBits, pointerHolds, pointerRules, versionHolds, versionRules, rowBreak};
+ghost use Rattle.page.specs.Headers.{countOf};
 ghost use Rattle.page.specs.LinePointers.{linePointerAt};
 ghost use Rattle.page.specs.declared.line_pointers.State.the-variants.{Normal};
-ghost use Rattle.page_check.specs.Lawful.{ownBreak};
+ghost use Rattle.page_check.specs.Lawful.{ownBreak, ownBroken};
 use crate::rules::Broken;
 use crate::rules::HeaderRule;
 use crate::rules::PointerRule;
@@ -156,8 +157,9 @@ fn own_break(kinds: &[Kind], page: &Page, number: u16) -> Option<Broken>
 
 // The first line pointer that breaks a rule by itself.
 pub(crate) fn first_own_break(kinds: &[Kind], page: &Page, count: u16) -> Option<Broken>
-    requires { ⌜ count ≤ 291 ⌝ }
-    ensures { λ r. ⌜ r ≡ firstTo (λ n. ownBreak (now (kinds .entry)) (now (page .entry)) n (linePointerAt (now (page .entry)) n)) count ⌝ }
+    requires few { ⌜ count ≤ 291 ⌝ }
+    requires count { ⌜ count ≡ countOf (now page) ⌝ }
+    ensures { λ r. ⌜ r ≡ ownBroken (now (kinds .entry)) (now (page .entry)) ⌝ }
 {
     for i in 0..count {
         let broken = own_break(kinds, page, i + 1);

@@ -10,6 +10,9 @@ use Rattle.page.specs.LinePointers.{pointerAt}
 use Rattle.page.specs.Slots.{slotNo, slotOf}
 use Rattle.page_check.specs.Rules.{nameOf}
 use Rattle.page_check.specs.Marking.{nameFree, nameTaken}
+use Rattle.page_check.specs.Lawful.{pageBreak}
+use Rattle.page_check.specs.declared.rules.PageRule.the-variants.{NamedOnce}
+use Rattle.page_check.proofs.All.{firstTo-end}
 use Rattle.page_check.proofs.Slots.{slotNo-in}
 use Rattle.page_check.proofs.Names.{named, name-small, names-none, names-some}
 use Rattle.page_check.proofs.naming.first_named_twice.Needs as need
@@ -29,7 +32,7 @@ take-name-requires c κs =
 pub returns-then-not-take-name : need.returns-then-not-take-name
 returns-then-not-take-name c =
     let n = name-is (c .args .page .now) (c .args .block) (c .loop-i .i) (c .name-of .result) (omega arith) (c .name-of .ensures) in
-    names-some (c .args .block) (c .args .page .now) (omega arith) (c .loop-i .i) (c .loop-i .named) (c .loop-i .inv .1) (c .args .count) (c .loop-i-test .taken) (c .loop-i .inv .0)
+    names-some (c .args .block) (c .args .page .now) (omega arith) (c .loop-i .i) (c .loop-i .named) (c .loop-i .inv .1) (omega arith) (c .loop-i .inv .0)
     (c .if-not-take-name .ensures tt .answer ∙ ap (nameFree (c .loop-i .named)) n)
 
 pub loop-i-again : need.loop-i-again
@@ -38,3 +41,6 @@ loop-i-again c =
     names-none (c .args .block) (c .args .page .now) (omega arith) (c .loop-i .i) (c .loop-i .named) (c .loop-i .inv .1) (c .take-name .last .named) (search needs) (c .loop-i .inv .0)
     (c .if-not-take-name .ensures tt .answer ∙ ap (nameFree (c .loop-i .named)) n)
     (c .take-name .ensures .named ∙ ap (nameTaken (c .loop-i .named)) n)
+
+pub returns : need.returns
+returns c = firstTo-end (pageBreak (c .args .block) (c .args .page .now) NamedOnce) (c .loop-i .i) (countOf (c .args .page .now)) (c .loop-i .inv .0) (omega arith)
