@@ -32,8 +32,8 @@ ROOT = Path(__file__).resolve().parent.parent
 IMAGE_FILE = ROOT / "crates" / "inspect" / "data" / "heap.img"
 TEXT_FILE = ROOT / "crates" / "inspect" / "stdout"
 
-# The path as it is given to the inspector, which prints it back.
-IMAGE_ARGUMENT = "data/heap.img"
+# The path as it is given to the inspector, which prints it back (the gate runs it beside the image).
+IMAGE_ARGUMENT = "heap.img"
 
 PAGE_SIZE = 8192
 MAX_PAGES = 64

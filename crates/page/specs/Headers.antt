@@ -13,7 +13,8 @@ headerOf p = record {
   upper = get16 p 14;
   special = get16 p 16;
   version = get16 p 18;
-  «prune_xid» = get32 p 20 }
+  «prune_xid» = get32 p 20;
+}
 
 -- the line pointers between the header and lower, as far as the page goes
 abbrev pub pointerCount : PageHeader → ℕ

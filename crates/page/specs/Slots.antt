@@ -43,7 +43,8 @@ decoded v row = record {
   hotUpdated = hasMark v HotUpdated;
   heapOnly = hasMark v HeapOnly;
   ctid = v .ctid;
-  row = row }
+  row = row;
+}
 
 abbrev pub slotOf : List ℕ → Pointer → Slot
 slotOf p Unused = unused

@@ -49,7 +49,8 @@ headerAt p o = record {
   infomask2 = get16 p (o + 18);
   infomask = get16 p (o + 20);
   hoff = getD p (o + 22) 0;
-  zero = getD p (o + 23) 0 }
+  zero = getD p (o + 23) 0;
+}
 
 -- the same, where it lies inside the page
 abbrev pub versionAt : List ℕ → ℕ → Option VersionHeader

@@ -15,7 +15,10 @@ const KINDS: [Kind; 6] = [
     Kind { code: 3, body: 8 },
     Kind { code: 4, body: 20 },
     Kind { code: 5, body: 120 },
-    Kind { code: 6, body: 1000 },
+    Kind {
+        code: 6,
+        body: 1000,
+    },
 ];
 
 // The table of kinds that the archive uses.

@@ -2,8 +2,8 @@
 ghost use mathlib.Core.Path.{_≡_};
 ghost use Rattle.page.specs.LinePointers.{stateCode, stateOf, linePointerOf, linePointerAt, pointerOf, pointerAt};
 use crate::bytes::read32;
-use crate::headers::Page;
 use crate::headers::PAGE_SIZE;
+use crate::headers::Page;
 
 #[derive(Clone, Copy)]
 pub enum State {
@@ -66,7 +66,10 @@ impl LinePointer {
     {
         match self.state {
             State::Unused => Pointer::Unused,
-            State::Normal => Pointer::Normal { offset: self.offset, len: self.len },
+            State::Normal => Pointer::Normal {
+                offset: self.offset,
+                len: self.len,
+            },
             State::Redirect => Pointer::Redirect(self.offset),
             State::Dead => Pointer::Dead,
         }
@@ -79,7 +82,11 @@ pub fn line_pointer_at(page: &Page, number: u16) -> LinePointer
 {
     let at = 20 + 4 * number as usize;
     if at >= PAGE_SIZE {
-        return LinePointer { offset: 0, state: State::Unused, len: 0 };
+        return LinePointer {
+            offset: 0,
+            state: State::Unused,
+            len: 0,
+        };
     }
     LinePointer::decode(read32(page, at))
 }

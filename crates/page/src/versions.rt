@@ -4,8 +4,8 @@ ghost use Rattle.std.specs.Options.{mapped};
 ghost use Rattle.page.specs.Versions.{weight, wordOf, hasMark, versionAt, rowAt};
 use crate::bytes::read16;
 use crate::bytes::read32;
-use crate::headers::Page;
 use crate::headers::PAGE_SIZE;
+use crate::headers::Page;
 
 // Where a version stands: a block of the heap, and a line pointer of its page.
 #[derive(Clone, Copy)]
@@ -79,7 +79,10 @@ pub fn version_at(page: &Page, offset: u16) -> Option<VersionHeader>
         creator: read32(page, at),
         remover: read32(page, at + 4),
         command: read32(page, at + 8),
-        ctid: Address { block, pointer: read16(page, at + 16) },
+        ctid: Address {
+            block,
+            pointer: read16(page, at + 16),
+        },
         infomask2: read16(page, at + 18),
         infomask: read16(page, at + 20),
         hoff: page[at + 22],

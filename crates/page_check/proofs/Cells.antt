@@ -42,8 +42,8 @@ free-apart (Normal o n) (Normal o′ n′) a b h =
     ⊎-elim
     (λ (z : o < o′). let no = h (o′ / 8) (omega arith) in grind (arith, tells))
     (λ (z : o′ ≤ o).
-        let no = h (o / 8) (omega arith) (and-from (leb (o / 8) (o / 8)) (ltb (o / 8) ((o + n + 7) / 8)) (le-leb (o / 8) (o / 8) (omega arith)) (lt-ltb (o / 8) ((o + n + 7) / 8) (omega arith))) in
-        grind (arith, tells))
+    let no = h (o / 8) (omega arith) (and-from (leb (o / 8) (o / 8)) (ltb (o / 8) ((o + n + 7) / 8)) (le-leb (o / 8) (o / 8) (omega arith)) (lt-ltb (o / 8) ((o + n + 7) / 8) (omega arith))) in
+    grind (arith, tells))
     (cases-lt o o′)
 
 -- what it is to cover a cell
@@ -72,14 +72,14 @@ fill-at cs a e x len le to b =
     ⊎-elim
     (λ (z : x < a). let k : leb a x ≡ false = lt-leb a x z in grind (arith, places))
     (λ (z : a ≤ x). ⊎-elim
-        (λ (y : x < e).
-            let k : leb a x ≡ true = le-leb a x z in
-            let l : ltb x e ≡ true = lt-ltb x e y in
-            let i : x - a < e - a = omega arith in
-            let r : getD (replicate (e - a) true) (x - a) false ≡ true = getD-replicate (e - a) (x - a) true false i in
-            grind (arith, places))
-        (λ (y : e ≤ x). let l : ltb x e ≡ false = le-ltb x e y in grind (arith, places))
-        (cases-lt x e))
+    (λ (y : x < e).
+    let k : leb a x ≡ true = le-leb a x z in
+    let l : ltb x e ≡ true = lt-ltb x e y in
+    let i : x - a < e - a = omega arith in
+    let r : getD (replicate (e - a) true) (x - a) false ≡ true = getD-replicate (e - a) (x - a) true false i in
+    grind (arith, places))
+    (λ (y : e ≤ x). let l : ltb x e ≡ false = le-ltb x e y in grind (arith, places))
+    (cases-lt x e))
     (cases-lt x a)
 
 taken-at : (cs : List Bool) (x : Pointer) (k : ℕ) → length cs ≡ 1024 → LiesIn x → k < 1024 → getD (cellsTaken cs x) k false ≡ (covers x k || getD cs k false)
@@ -107,10 +107,12 @@ busy-at cs Dead i h = absurd (both-ways true h refl)
 busy-at cs (Normal o n) i h =
     let i1 = i .ends in
     let r = allTo-miss (λ k. not (getD cs (o / 8 + k) false)) ((o + n + 7) / 8 - o / 8) h in
-    let l = r .1 in
-    (o / 8 + r .0, omega arith,
-     and-from (leb (o / 8) (o / 8 + r .0)) (ltb (o / 8 + r .0) ((o + n + 7) / 8)) (le-leb (o / 8) (o / 8 + r .0) (omega arith)) (lt-ltb (o / 8 + r .0) ((o + n + 7) / 8) (omega arith)),
-     not-false (getD cs (o / 8 + r .0) false) (r .2))
+    let l = r .1 in (
+      o / 8 + r .0,
+      omega arith,
+      and-from (leb (o / 8) (o / 8 + r .0)) (ltb (o / 8 + r .0) ((o + n + 7) / 8)) (le-leb (o / 8) (o / 8 + r .0) (omega arith)) (lt-ltb (o / 8 + r .0) ((o + n + 7) / 8) (omega arith)),
+      not-false (getD cs (o / 8 + r .0) false) (r .2),
+    )
 
 -- a rule among the pointers, by its test
 pub break-none : (b : ℕ) (p : List ℕ) (r : PageRule) (n : ℕ) → pageHolds b p n r ≡ true → pageBreak b p r n ≡ None
@@ -131,14 +133,15 @@ module _ (p : List ℕ) (lie : AllLie p) (i : ℕ) (inside : i < countOf p) (cs 
   pub overlap-none : (ds : List Bool) → length cs ≡ 1024 → firstTo (pageBreak 0 p NoOverlap) i ≡ None
       → true ≡ cellsFree cs (pointerAt p (i + 1)) → ds ≡ cellsTaken cs (pointerAt p (i + 1))
       → (firstTo (pageBreak 0 p NoOverlap) (i + 1) ≡ None) × Shows (cov p) 1024 (i + 1) ds
-  overlap-none ds len before f e =
-      (firstTo-more (pageBreak 0 p NoOverlap) i before
+  overlap-none ds len before f e = (
+    firstTo-more (pageBreak 0 p NoOverlap) i before
         (break-none 0 p NoOverlap (i + 1)
-          (each-before (λ j. apart (pointerAt p (i + 1)) (pointerAt p j)) i
-          ∙ marks-free (cov p) 1024 meets i cs shows (free-at cs (pointerAt p (i + 1)) (sym f))
-              (λ j m no. free-apart (pointerAt p (i + 1)) (pointerAt p (j + 1)) (lie i inside) (lie j (omega arith)) no))),
-       marks-more (cov p) 1024 i cs ds shows
-        (λ x b. ap (λ (d : List Bool). getD d x false) e ∙ taken-at cs (pointerAt p (i + 1)) x len (lie i inside) b))
+        (each-before (λ j. apart (pointerAt p (i + 1)) (pointerAt p j)) i
+        ∙ marks-free (cov p) 1024 meets i cs shows (free-at cs (pointerAt p (i + 1)) (sym f))
+        (λ j m no. free-apart (pointerAt p (i + 1)) (pointerAt p (j + 1)) (lie i inside) (lie j (omega arith)) no))),
+    marks-more (cov p) 1024 i cs ds shows
+        (λ x b. ap (λ (d : List Bool). getD d x false) e ∙ taken-at cs (pointerAt p (i + 1)) x len (lie i inside) b),
+  )
 
   pub overlap-some : firstTo (pageBreak 0 p NoOverlap) i ≡ None → false ≡ cellsFree cs (pointerAt p (i + 1))
       → Some (Among (i + 1) NoOverlap) ≡ firstTo (pageBreak 0 p NoOverlap) (countOf p)
@@ -146,7 +149,7 @@ module _ (p : List ℕ) (lie : AllLie p) (i : ℕ) (inside : i < countOf p) (cs 
       let r = busy-at cs (pointerAt p (i + 1)) (lie i inside) (sym f) in
       firstTo-hit (pageBreak 0 p NoOverlap) i (countOf p) (Some (Among (i + 1) NoOverlap)) before inside
       (break-some 0 p NoOverlap (i + 1)
-        (each-before (λ j. apart (pointerAt p (i + 1)) (pointerAt p j)) i
-        ∙ marks-busy (cov p) 1024 meets i cs shows (r .0) (r .1) (r .2) (r .3)
-            (λ j m a b. share-meet (pointerAt p (i + 1)) (pointerAt p (j + 1)) (r .0) (lie i inside) (lie j (omega arith)) a b)))
+      (each-before (λ j. apart (pointerAt p (i + 1)) (pointerAt p j)) i
+      ∙ marks-busy (cov p) 1024 meets i cs shows (r .0) (r .1) (r .2) (r .3)
+      (λ j m a b. share-meet (pointerAt p (i + 1)) (pointerAt p (j + 1)) (r .0) (lie i inside) (lie j (omega arith)) a b)))
       refl

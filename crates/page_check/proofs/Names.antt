@@ -44,8 +44,8 @@ name-small b p (redirect t) =
 name-small b p (holds v) =
     ⊎-elim
     (λ (h : (v .hotUpdated && eqb (v .ctid .block) b && isMadeBy (v .remover) (slotNo p (v .ctid .pointer))) ≡ true).
-        rw h (small-since (isMadeBy (v .remover)) p (v .ctid .pointer) refl
-            (and-parts (v .hotUpdated && eqb (v .ctid .block) b) (isMadeBy (v .remover) (slotNo p (v .ctid .pointer))) h .1)))
+    rw h (small-since (isMadeBy (v .remover)) p (v .ctid .pointer) refl
+    (and-parts (v .hotUpdated && eqb (v .ctid .block) b) (isMadeBy (v .remover) (slotNo p (v .ctid .pointer))) h .1)))
     (λ (h : (v .hotUpdated && eqb (v .ctid .block) b && isMadeBy (v .remover) (slotNo p (v .ctid .pointer))) ≡ false). rw h (omega arith))
     (cases-bool (v .hotUpdated && eqb (v .ctid .block) b && isMadeBy (v .remover) (slotNo p (v .ctid .pointer))))
 
@@ -67,10 +67,10 @@ taken-name ns t x len l b z =
     ⊎-elim
     (λ (e : t ≡ 0). ⊎-elim (λ (d : x ≡ 0). rw (e, d)) (λ (d : x ≡ 0 → ⊥). rw e (rw (ne-eqb 0 x (λ q. d (sym q))) (rw (ne-eqb x 0 d) refl))) (cases-eq x 0))
     (λ (e : t ≡ 0 → ⊥). rw (ne-eqb t 0 e)
-        (⊎-elim
-        (λ (d : t ≡ x). rw (eq-eqb t x d) (rw (ne-eqb x 0 (λ q. e (d ∙ q))) (ap (λ (y : ℕ). getD (set ns t true) y false) (sym d) ∙ getD-set-same ns t true false (omega arith))))
-        (λ (d : t ≡ x → ⊥). let n : x ≢ t = λ q. d (sym q) in rw (ne-eqb t x d) (getD-set-other ns t x true false n ∙ grind arith))
-        (cases-eq t x)))
+    (⊎-elim
+    (λ (d : t ≡ x). rw (eq-eqb t x d) (rw (ne-eqb x 0 (λ q. e (d ∙ q))) (ap (λ (y : ℕ). getD (set ns t true) y false) (sym d) ∙ getD-set-same ns t true false (omega arith))))
+    (λ (d : t ≡ x → ⊥). let n : x ≢ t = λ q. d (sym q) in rw (ne-eqb t x d) (getD-set-other ns t x true false n ∙ grind arith))
+    (cases-eq t x)))
     (cases-eq t 0)
 
 other-true : (s t : ℕ) → s < 292 → ((x : ℕ) → x < 292 → isName s x ≡ true → isName t x ≡ false) → otherName s t ≡ true
@@ -78,8 +78,8 @@ other-true s t l h =
     ⊎-elim
     (λ (e : s ≡ 0). or-left (eqb s 0) (not (eqb s t)) (eq-eqb s 0 e))
     (λ (e : s ≡ 0 → ⊥).
-        let no = h s l (name-here s e) in
-        or-right (eqb s 0) (not (eqb s t)) (not-from-false (eqb s t) (ne-eqb s t (λ q. both-ways (isName t s) no (and-from (not (eqb s 0)) (eqb t s) (not-from-false (eqb s 0) (ne-eqb s 0 e)) (eq-eqb t s (sym q)))))))
+    let no = h s l (name-here s e) in
+    or-right (eqb s 0) (not (eqb s t)) (not-from-false (eqb s t) (ne-eqb s t (λ q. both-ways (isName t s) no (and-from (not (eqb s 0)) (eqb t s) (not-from-false (eqb s 0) (ne-eqb s 0 e)) (eq-eqb t s (sym q)))))))
     (cases-eq s 0)
 
 other-false : (s t x : ℕ) → isName s x ≡ true → isName t x ≡ true → otherName s t ≡ false
@@ -124,14 +124,15 @@ module _ (b : ℕ) (p : List ℕ) (few : countOf p ≤ 291) (i : ℕ) (ns : List
       → true ≡ nameFree ns (named b p i) → ms ≡ nameTaken ns (named b p i)
       → (firstTo (pageBreak b p NamedOnce) (i + 1) ≡ None) × Shows (says b p) 292 (i + 1) ms
   names-none ms len before f e =
-      let le = small in
-      (firstTo-more (pageBreak b p NamedOnce) i before
-        (break-none b p NamedOnce (i + 1)
-          (each-before (λ j. otherName (named b p i) (nameOf b (slotNo p) (slotNo p j))) i
-          ∙ marks-free (says b p) 292 differs i ns shows (λ x l. free-name ns (named b p i) (sym f) x)
-              (λ j m no. other-true (named b p i) (named b p j) (omega arith) no))),
-       marks-more (says b p) 292 i ns ms shows
-        (λ x l. ap (λ (d : List Bool). getD d x false) e ∙ taken-name ns (named b p i) x len le l (shows 0 (omega arith) ∙ none-zero b p i)))
+      let le = small in (
+        firstTo-more (pageBreak b p NamedOnce) i before
+            (break-none b p NamedOnce (i + 1)
+            (each-before (λ j. otherName (named b p i) (nameOf b (slotNo p) (slotNo p j))) i
+            ∙ marks-free (says b p) 292 differs i ns shows (λ x l. free-name ns (named b p i) (sym f) x)
+            (λ j m no. other-true (named b p i) (named b p j) (omega arith) no))),
+        marks-more (says b p) 292 i ns ms shows
+            (λ x l. ap (λ (d : List Bool). getD d x false) e ∙ taken-name ns (named b p i) x len le l (shows 0 (omega arith) ∙ none-zero b p i)),
+      )
 
   pub names-some : i < countOf p → firstTo (pageBreak b p NamedOnce) i ≡ None → false ≡ nameFree ns (named b p i)
       → Some (Among (i + 1) NamedOnce) ≡ firstTo (pageBreak b p NamedOnce) (countOf p)
@@ -140,7 +141,7 @@ module _ (b : ℕ) (p : List ℕ) (few : countOf p ≤ 291) (i : ℕ) (ns : List
       let r = busy-name ns (named b p i) (sym f) in
       firstTo-hit (pageBreak b p NamedOnce) i (countOf p) (Some (Among (i + 1) NamedOnce)) before l
       (break-some b p NamedOnce (i + 1)
-        (each-before (λ j. otherName (named b p i) (nameOf b (slotNo p) (slotNo p j))) i
-        ∙ marks-busy (says b p) 292 differs i ns shows (named b p i) (omega arith) (r .0) (r .1)
-            (λ j m x y. other-false (named b p i) (named b p j) (named b p i) x y)))
+      (each-before (λ j. otherName (named b p i) (nameOf b (slotNo p) (slotNo p j))) i
+      ∙ marks-busy (says b p) 292 differs i ns shows (named b p i) (omega arith) (r .0) (r .1)
+      (λ j m x y. other-false (named b p i) (named b p j) (named b p i) x y)))
       refl

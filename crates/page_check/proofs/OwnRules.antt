@@ -31,8 +31,8 @@ pub own-version : (kinds : List Kind) (p : List ℕ) (n : ℕ) (l m : LinePointe
     → mapped (InVersion n) x ≡ ownBreak kinds p n m
 own-version kinds p n l m v x e h s a b =
     let here : x ≡ firstOf (versionHolds (headerAt p (l .offset))) (versionRules (l .state))
-        = b ∙ ap (λ (w : VersionHeader). firstOf (versionHolds w) (versionRules state.Normal)) (the-header (leb (l .offset + 24) 8192) v (headerAt p (l .offset)) a)
-          ∙ ap (λ (t : State). firstOf (versionHolds (headerAt p (l .offset))) (versionRules t)) (sym s) in
+    = b ∙ ap (λ (w : VersionHeader). firstOf (versionHolds w) (versionRules state.Normal)) (the-header (leb (l .offset + 24) 8192) v (headerAt p (l .offset)) a)
+    ∙ ap (λ (t : State). firstOf (versionHolds (headerAt p (l .offset))) (versionRules t)) (sym s) in
     ap (mapped (InVersion n)) here
     ∙ ap (λ (o : Option PointerRule). orOther (mapped (AtPointer n) o) (mapped (InVersion n) (firstOf (versionHolds (headerAt p (l .offset))) (versionRules (l .state))))) h
     ∙ ap (ownBreak kinds p n) e

@@ -77,7 +77,7 @@ module _ (kinds : List Kind) (b : ℕ) (p : List ℕ) where
   none-lawful =
       five (headerBroken p) (ownBroken kinds p) (amongBroken b p NoOverlap) (amongBroken b p RedirectTarget) (amongBroken b p NamedOnce)
       ∙ rw (mapped-all InHeader (headerHolds (headerOf p)) headerRules)
-        (rw own-each (rw (among-each NoOverlap) (rw (among-each RedirectTarget) (rw (among-each NamedOnce) refl))))
+      (rw own-each (rw (among-each NoOverlap) (rw (among-each RedirectTarget) (rw (among-each NamedOnce) refl))))
 
 -- A reported rule fails.
 
@@ -128,8 +128,8 @@ module _ (kinds : List Kind) (b : ℕ) (p : List ℕ) where
       found-or Fail (headerBroken p) (orOther (ownBroken kinds p) (orOther x (orOther y z)))
       (found-mapped InHeader Fail (firstOf (headerHolds (headerOf p)) headerRules) (found-firstOf (headerHolds (headerOf p)) headerRules))
       (found-or Fail (ownBroken kinds p) (orOther x (orOther y z))
-        (found-firstTo Fail (λ n. ownBreak kinds p n (linePointerAt p n)) (countOf p) own-fails)
-        (found-or Fail x (orOther y z) (among-fails NoOverlap) (found-or Fail y z (among-fails RedirectTarget) (among-fails NamedOnce))))
+      (found-firstTo Fail (λ n. ownBreak kinds p n (linePointerAt p n)) (countOf p) own-fails)
+      (found-or Fail x (orOther y z) (among-fails NoOverlap) (found-or Fail y z (among-fails RedirectTarget) (among-fails NamedOnce))))
 
 -- Where the rules of the pointers hold, their versions lie inside the page.
 
@@ -142,7 +142,7 @@ lies-by kinds p l state.Normal h = record { aligned = grind (arith, tells); ends
 pub all-lie : (kinds : List Kind) (p : List ℕ) → None ≡ ownBroken kinds p → AllLie p
 all-lie kinds p h k l =
     let holds : each (λ n. ownHolds kinds p (linePointerAt p n)) (countOf p) ≡ true
-        = sym (own-each kinds 0 p) ∙ ap (λ (r : Option Broken). not (isSome r)) (sym h) in
+    = sym (own-each kinds 0 p) ∙ ap (λ (r : Option Broken). not (isSome r)) (sym h) in
     let here = allTo-at (λ k. ownHolds kinds p (linePointerAt p (k + 1))) (countOf p) k holds l in
     lies-by kinds p (linePointerAt p (k + 1)) (linePointerAt p (k + 1) .state)
     (and-parts (allOf (pointerHolds kinds p (linePointerAt p (k + 1))) (pointerRules (linePointerAt p (k + 1) .state))) _ here .0)

@@ -55,9 +55,9 @@ module _ (F : Slot → Bool) (no : F unused ≡ false) (no-dead : F dead ≡ fal
   bare-slotNo p n lie e =
       ⊎-elim
       (λ (h : (leb 1 n && leb n (countOf p)) ≡ true).
-          let both = and-parts (leb 1 n) (leb n (countOf p)) h in
-          let a = leb-true 1 n (both .0) in let b = leb-true n (countOf p) (both .1) in
-          sym (ap F (slotNo-in p n a b)
-              ∙ bare-slot p (pointerAt p n) (lies-no p n lie a b) (e ∙ cond-true (leb 1 n && leb n (countOf p)) (headerIn p (pointerAt p n)) None h)))
+      let both = and-parts (leb 1 n) (leb n (countOf p)) h in
+      let a = leb-true 1 n (both .0) in let b = leb-true n (countOf p) (both .1) in
+      sym (ap F (slotNo-in p n a b)
+      ∙ bare-slot p (pointerAt p n) (lies-no p n lie a b) (e ∙ cond-true (leb 1 n && leb n (countOf p)) (headerIn p (pointerAt p n)) None h)))
       (λ (h : (leb 1 n && leb n (countOf p)) ≡ false). sym (ap F (cond-false (leb 1 n && leb n (countOf p)) (slotOf p (pointerAt p n)) unused h) ∙ no))
       (cases-bool (leb 1 n && leb n (countOf p)))

@@ -10,12 +10,12 @@ ghost use Rattle.page_check.specs.Marking.{AllLie, headerNo, nameFree, nameTak
 ghost use Rattle.page_check.specs.declared.rules.PageRule.the-variants.{RedirectTarget, NamedOnce};
 use crate::rules::Broken;
 use crate::rules::PageRule;
-use page::pointer_at;
-use page::version_at;
 use page::Mark;
 use page::Page;
 use page::Pointer;
 use page::VersionHeader;
+use page::pointer_at;
+use page::version_at;
 
 // The header of the version of a line pointer, where there is one.
 fn version_of(page: &Page, count: u16, number: u16) -> Option<VersionHeader>
@@ -64,13 +64,20 @@ fn name_of(page: &Page, block: u32, count: u16, number: u16) -> u16
     match pointer_at(page, number) {
         Pointer::Unused => 0,
         Pointer::Dead => 0,
-        Pointer::Redirect(target) => if is_heap_only(page, count, target) { target } else { 0 },
+        Pointer::Redirect(target) => if is_heap_only(page, count, target) {
+            target
+        } else {
+            0
+        },
         Pointer::Normal { offset, len: _ } => {
             let Some(version) = version_at(page, offset) else {
                 return 0;
             };
             let named = version.ctid.pointer;
-            if version.has(Mark::HotUpdated) && version.ctid.block == block && is_made_by(page, count, named, version.remover) {
+            if version.has(Mark::HotUpdated)
+                && version.ctid.block == block
+                && is_made_by(page, count, named, version.remover)
+            {
                 named
             } else {
                 0

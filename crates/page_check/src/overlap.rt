@@ -7,9 +7,9 @@ ghost use Rattle.page_check.specs.Marking.{LiesIn, AllLie, freeTo, cellsFree, 
 ghost use Rattle.page_check.specs.declared.rules.PageRule.the-variants.{NoOverlap};
 use crate::rules::Broken;
 use crate::rules::PageRule;
-use page::pointer_at;
 use page::Page;
 use page::Pointer;
+use page::pointer_at;
 
 fn cells_free(cells: &[bool; 1024], from: usize, to: usize) -> bool
     requires { ⌜ to ≤ 1024 ⌝ ∗ ⌜ from ≤ to ⌝ }

@@ -13,9 +13,6 @@ use crate::rules::Broken;
 use crate::rules::HeaderRule;
 use crate::rules::PointerRule;
 use crate::rules::VersionRule;
-use page::body_len;
-use page::line_pointer_at;
-use page::version_at;
 use page::Kind;
 use page::LinePointer;
 use page::Mark;
@@ -23,6 +20,9 @@ use page::Page;
 use page::PageHeader;
 use page::State;
 use page::VersionHeader;
+use page::body_len;
+use page::line_pointer_at;
+use page::version_at;
 
 pub(crate) fn header_break(header: &PageHeader) -> Option<HeaderRule>
     ensures { λ r. ⌜ r ≡ firstOf (headerHolds (now (header .entry))) headerRules ⌝ }

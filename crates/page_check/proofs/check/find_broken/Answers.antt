@@ -6,4 +6,5 @@ pub among-broken-requires : need.among-broken-requires
 among-broken-requires c κs = record {
   few = search needs;
   count = search needs;
-  lie = all-lie (c .args .kinds .now) (c .args .page .now) (c .in-rest-first-own-break .ensures tt) }
+  lie = all-lie (c .args .kinds .now) (c .args .page .now) (c .in-rest-first-own-break .ensures tt);
+}

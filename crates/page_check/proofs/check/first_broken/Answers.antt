@@ -13,4 +13,5 @@ returns c = record {
   first = c .find-broken .ensures;
   none = ap (λ (r : Option Broken). not (isSome r)) (c .find-broken .ensures) ∙ none-lawful (c .args .kinds .now) (c .args .block) (c .args .page .now);
   fails = subst (λ (r : Option Broken). found r (Fails (c .args .kinds .now) (c .args .block) (c .args .page .now))) (sym (c .find-broken .ensures))
-      (report-fails (c .args .kinds .now) (c .args .block) (c .args .page .now)) }
+      (report-fails (c .args .kinds .now) (c .args .block) (c .args .page .now));
+}

@@ -15,14 +15,14 @@ pub returns-then-not-leads-well : need.returns-then-not-leads-well
 returns-then-not-leads-well c =
     firstTo-hit (pageBreak 0 (c .args .page .now) RedirectTarget) (c .loop-i .i) (countOf (c .args .page .now)) _ (c .loop-i .inv) (omega arith)
     (break-some 0 (c .args .page .now) RedirectTarget (c .loop-i .i + 1)
-      (ap (leadsWell (slotNo (c .args .page .now))) (slotNo-in (c .args .page .now) (c .loop-i .i + 1) (omega arith) (omega arith)) ∙ sym (c .if-not-leads-well .ensures tt)))
+    (ap (leadsWell (slotNo (c .args .page .now))) (slotNo-in (c .args .page .now) (c .loop-i .i + 1) (omega arith) (omega arith)) ∙ sym (c .if-not-leads-well .ensures tt)))
     refl
 
 pub loop-i-again : need.loop-i-again
 loop-i-again c =
     firstTo-more (pageBreak 0 (c .args .page .now) RedirectTarget) (c .loop-i .i) (c .loop-i .inv)
     (break-none 0 (c .args .page .now) RedirectTarget (c .loop-i .i + 1)
-      (ap (leadsWell (slotNo (c .args .page .now))) (slotNo-in (c .args .page .now) (c .loop-i .i + 1) (omega arith) (omega arith)) ∙ sym (c .if-not-leads-well .ensures tt)))
+    (ap (leadsWell (slotNo (c .args .page .now))) (slotNo-in (c .args .page .now) (c .loop-i .i + 1) (omega arith) (omega arith)) ∙ sym (c .if-not-leads-well .ensures tt)))
 
 pub returns : need.returns
 returns c = firstTo-end (pageBreak 0 (c .args .page .now) RedirectTarget) (c .loop-i .i) (countOf (c .args .page .now)) (c .loop-i .inv) (omega arith)

@@ -27,8 +27,8 @@ returns-then-not-take-cells c =
 pub loop-i-again : need.loop-i-again
 loop-i-again c =
     let r = overlap-none (c .args .page .now) (c .pre .lie) (c .loop-i .i) (omega arith) (c .loop-i .cells) (c .loop-i .inv .1) (c .take-cells .last .cells) (c .loop-i .inv .2) (c .loop-i .inv .0)
-            (c .if-not-take-cells .ensures tt .answer ∙ ap (cellsFree (c .loop-i .cells)) (c .pointer-at .ensures))
-            (c .take-cells .ensures .cells ∙ ap (cellsTaken (c .loop-i .cells)) (c .pointer-at .ensures)) in
+    (c .if-not-take-cells .ensures tt .answer ∙ ap (cellsFree (c .loop-i .cells)) (c .pointer-at .ensures))
+    (c .take-cells .ensures .cells ∙ ap (cellsTaken (c .loop-i .cells)) (c .pointer-at .ensures)) in
     (r .0, r .1, c .take-cells .array-long)
 
 pub returns : need.returns
