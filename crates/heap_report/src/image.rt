@@ -34,9 +34,8 @@ pub impl fmt::Display for SizeFault as SizeFaultDisplay {
         match *self {
             SizeFault::Empty => write!(f, "the file is empty (0 bytes)")?,
             SizeFault::BrokenPage(size) => {
-                let pages = size / 8192;
-                let rest = size % 8192;
-                write!(f, "{size} bytes are {pages} pages and {rest} bytes more")?
+                let over = size % 8192;
+                write!(f, "{size} bytes are not whole pages ({over} over)")?
             }
             SizeFault::TooManyPages(size) => {
                 let pages = size / 8192;

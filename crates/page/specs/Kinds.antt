@@ -4,6 +4,7 @@ use mathlib.Core.List.{List, [], _∷_}
 use Prim.Native.Nat.{ℕ}
 use lib.Dec.{eqb}
 use lib.ListN.{length}
+use Rattle.std.specs.Options.{mapped}
 use Rattle.std.specs.declared.option.Option.{Option}
 use Rattle.std.specs.declared.option.Option.the-variants.{Some, None}
 use Rattle.page.specs.declared.kinds.Kind.{Kind}
@@ -15,10 +16,14 @@ kindOf code body = record { code = code; body = body }
 abbrev pub theKinds : List Kind
 theKinds = kindOf 1 8 ∷ kindOf 2 12 ∷ kindOf 3 8 ∷ kindOf 4 20 ∷ kindOf 5 120 ∷ kindOf 6 1000 ∷ []
 
--- the length of a kind's body, by the first entry of that kind
+-- the first entry of a kind
+abbrev pub entryOf : List Kind → ℕ → Option Kind
+entryOf [] k = None
+entryOf (x ∷ xs) k = cond (eqb (x .code) k) (Some x) (entryOf xs k)
+
+-- the length of a kind's body
 abbrev pub bodyLen : List Kind → ℕ → Option ℕ
-bodyLen [] k = None
-bodyLen (x ∷ xs) k = cond (eqb (x .code) k) (Some (x .body)) (bodyLen xs k)
+bodyLen kinds k = mapped (λ x. x .body) (entryOf kinds k)
 
 -- a body of n bytes fits
 abbrev pub fits : Option ℕ → ℕ → Bool

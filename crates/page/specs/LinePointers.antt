@@ -28,9 +28,12 @@ stateOf c =
 abbrev pub linePointerOf : ℕ → LinePointer
 linePointerOf w = record { offset = w % 32768; state = stateOf (w / 32768); len = w / 131072 }
 
--- the line pointer of number n, counted from 1
+-- the bits of the line pointer of number n, counted from 1: the first follows the page header
+abbrev pub wordAt : List ℕ → ℕ → ℕ
+wordAt p n = get32 p (20 + 4 * n)
+
 abbrev pub linePointerAt : List ℕ → ℕ → LinePointer
-linePointerAt p n = linePointerOf (get32 p (20 + 4 * n))
+linePointerAt p n = linePointerOf (wordAt p n)
 
 abbrev pub meaningOf : State → ℕ → ℕ → Pointer
 meaningOf state.Unused o n = Unused

@@ -1,6 +1,6 @@
 // The kinds of rows. A row is a byte of kind and then its body, whose length the kind fixes.
 ghost use mathlib.Core.Path.{_≡_};
-ghost use Rattle.page.specs.Kinds.{theKinds, bodyLen, rowFits};
+ghost use Rattle.page.specs.Kinds.{theKinds, entryOf, bodyLen, rowFits};
 
 #[derive(Clone, Copy)]
 pub struct Kind {
@@ -28,16 +28,23 @@ pub fn standard_kinds() -> &'static [Kind; 6]
     &KINDS
 }
 
+fn entry_of(kinds: &[Kind], code: u8) -> Option<Kind>
+    ensures { λ r. ⌜ r ≡ entryOf (now (kinds .entry)) code ⌝ }
+{
+    for kind in kinds {
+        if kind.code == code {
+            return Some(*kind);
+        }
+    }
+    None
+}
+
 // How many bytes the body of a row has, where its kind stands in the table.
 pub fn body_len(kinds: &[Kind], code: u8) -> Option<u16>
     ensures { λ r. ⌜ r ≡ bodyLen (now (kinds .entry)) code ⌝ }
 {
-    for kind in kinds {
-        if kind.code == code {
-            return Some(kind.body);
-        }
-    }
-    None
+    let kind = entry_of(kinds, code)?;
+    Some(kind.body)
 }
 
 // Whether a row begins with a known kind and has the length of that kind.

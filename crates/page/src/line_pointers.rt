@@ -1,6 +1,6 @@
 // Line pointers: 32 bits each, right after the page header, counted from 1.
 ghost use mathlib.Core.Path.{_≡_};
-ghost use Rattle.page.specs.LinePointers.{stateCode, stateOf, linePointerOf, linePointerAt, pointerOf, pointerAt};
+ghost use Rattle.page.specs.LinePointers.{stateCode, stateOf, wordAt, linePointerOf, linePointerAt, pointerOf, pointerAt};
 use crate::bytes::read32;
 use crate::headers::PAGE_SIZE;
 use crate::headers::Page;
@@ -76,19 +76,22 @@ impl LinePointer {
     }
 }
 
-// The line pointer of a number. Past the end of the page all is zero, so that such a pointer is unused.
-pub fn line_pointer_at(page: &Page, number: u16) -> LinePointer
-    ensures { λ r. ⌜ r ≡ linePointerAt (now (page .entry)) number ⌝ }
+// The 32 bits of a line pointer: zero past the end of the page.
+fn word_at(page: &Page, number: u16) -> u32
+    ensures { λ r. ⌜ r ≡ wordAt (now (page .entry)) number ⌝ }
 {
     let at = 20 + 4 * number as usize;
     if at >= PAGE_SIZE {
-        return LinePointer {
-            offset: 0,
-            state: State::Unused,
-            len: 0,
-        };
+        return 0;
     }
-    LinePointer::decode(read32(page, at))
+    read32(page, at)
+}
+
+// The line pointer of a number, as its bits stand. One past the end of the page is unused.
+pub fn line_pointer_at(page: &Page, number: u16) -> LinePointer
+    ensures { λ r. ⌜ r ≡ linePointerAt (now (page .entry)) number ⌝ }
+{
+    LinePointer::decode(word_at(page, number))
 }
 
 pub fn pointer_at(page: &Page, number: u16) -> Pointer

@@ -1,6 +1,6 @@
 use mathlib.Core.Path.{sym, _∙_}
 use Rattle.page.proofs.KindSearch.{kind-here, kind-later, kind-nowhere}
-use Rattle.page.proofs.kinds.body_len.Needs as need
+use Rattle.page.proofs.kinds.entry_of.Needs as need
 
 pub returns-then-kind-code : need.returns-then-kind-code
 returns-then-kind-code c =

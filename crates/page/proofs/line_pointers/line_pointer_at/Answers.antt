@@ -1,9 +1,0 @@
-use mathlib.Core.Path.{sym, ap}
-use Prim.Native.Nat.{_+_, _*_}
-use native.Mathlib.Omega.{arith}
-use Rattle.page.specs.LinePointers.{linePointerOf}
-use Rattle.page.proofs.PastEnd.{get32-past}
-use Rattle.page.proofs.line_pointers.line_pointer_at.Needs as need
-
-pub returns-then-at-ge-PAGE-SIZE : need.returns-then-at-ge-PAGE-SIZE
-returns-then-at-ge-PAGE-SIZE c = ap linePointerOf (sym (get32-past (c .args .page .now) (20 + 4 * c .args .number) (omega arith)))
