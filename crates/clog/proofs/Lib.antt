@@ -1,0 +1,4 @@
+pub mod CodesKept
+pub mod Sizes
+pub mod Slots
+pub mod Changes

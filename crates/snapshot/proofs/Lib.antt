@@ -1,0 +1,4 @@
+pub mod Numbers
+pub mod Nearest
+pub mod Facts
+pub mod Occupied

@@ -1,0 +1,4 @@
+pub mod Lists
+pub mod Snapshots
+pub mod Operations
+pub mod Laws

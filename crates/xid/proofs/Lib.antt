@@ -1,0 +1,5 @@
+pub mod Distances
+pub mod Windows
+pub mod Line
+pub mod Forget
+pub mod Stored
