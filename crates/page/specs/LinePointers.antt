@@ -46,3 +46,10 @@ pointerOf l = meaningOf (l .state) (l .offset) (l .len)
 
 abbrev pub pointerAt : List ℕ → ℕ → Pointer
 pointerAt p n = pointerOf (linePointerAt p n)
+
+-- the bits of a pointer
+abbrev pub wordOf : Pointer → ℕ
+wordOf Unused = stateCode state.Unused * 32768
+wordOf (Normal o n) = o % 32768 + stateCode state.Normal * 32768 + n % 32768 * 131072
+wordOf (Redirect t) = t % 32768 + stateCode state.Redirect * 32768
+wordOf Dead = stateCode state.Dead * 32768

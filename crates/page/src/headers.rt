@@ -1,6 +1,6 @@
 // A page and its header.
 ghost use mathlib.Core.Path.{_≡_};
-ghost use Rattle.page.specs.Headers.{headerOf, pointerCount};
+ghost use Rattle.page.specs.Headers.{headerOf, pointerCount, countOf};
 use crate::bytes::read16;
 use crate::bytes::read32;
 use crate::bytes::read64;
@@ -44,4 +44,11 @@ impl PageHeader {
     {
         self.lower.min(8192).saturating_sub(24) / 4
     }
+}
+
+// How many line pointers stand on a page.
+pub fn pointer_count(page: &Page) -> u16
+    ensures { λ r. ⌜ r ≡ countOf (now (page .entry)) ⌝ }
+{
+    PageHeader::read(page).pointer_count()
 }

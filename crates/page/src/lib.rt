@@ -9,9 +9,12 @@ mod kinds;
 mod line_pointers;
 mod versions;
 
+pub use bytes::write16;
+pub use bytes::write32;
 pub use headers::PAGE_SIZE;
 pub use headers::Page;
 pub use headers::PageHeader;
+pub use headers::pointer_count;
 pub use kinds::Kind;
 pub use kinds::body_len;
 pub use kinds::row_fits;
@@ -26,3 +29,4 @@ pub use versions::Mark;
 pub use versions::VersionHeader;
 pub use versions::row_at;
 pub use versions::version_at;
+pub use versions::version_of;

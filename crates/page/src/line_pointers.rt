@@ -1,6 +1,6 @@
 // Line pointers: 32 bits each, right after the page header, counted from 1.
 ghost use mathlib.Core.Path.{_≡_};
-ghost use Rattle.page.specs.LinePointers.{stateCode, stateOf, wordAt, linePointerOf, linePointerAt, pointerOf, pointerAt};
+ghost use Rattle.page.specs.LinePointers.{stateCode, stateOf, wordAt, linePointerOf, linePointerAt, pointerOf, pointerAt, wordOf};
 use crate::bytes::read32;
 use crate::headers::PAGE_SIZE;
 use crate::headers::Page;
@@ -48,6 +48,22 @@ pub enum Pointer {
     Normal { offset: u16, len: u16 },
     Redirect(u16),
     Dead,
+}
+
+impl Pointer {
+    // The bits of a line pointer with this meaning; offset, length and number have 15 bits.
+    pub fn encode(self) -> u32
+        ensures { λ r. ⌜ r ≡ wordOf self ⌝ }
+    {
+        match self {
+            Pointer::Unused => 0,
+            Pointer::Normal { offset, len } => offset as u32 % 0x8000
+                + 0x8000
+                + len as u32 % 0x8000 * 0x2_0000,
+            Pointer::Redirect(number) => number as u32 % 0x8000 + 0x1_0000,
+            Pointer::Dead => 0x1_8000,
+        }
+    }
 }
 
 impl LinePointer {

@@ -1,11 +1,15 @@
 // Versions of rows: a header of 24 bytes, and then the row.
 ghost use mathlib.Core.Path.{_≡_};
 ghost use Rattle.std.specs.Options.{mapped};
+ghost use Rattle.page.specs.Slots.{headerNo};
 ghost use Rattle.page.specs.Versions.{weight, wordOf, hasMark, versionAt, rowAt};
 use crate::bytes::read16;
 use crate::bytes::read32;
 use crate::headers::PAGE_SIZE;
 use crate::headers::Page;
+use crate::headers::pointer_count;
+use crate::line_pointers::Pointer;
+use crate::line_pointers::pointer_at;
 
 // Where a version stands: a block of the heap, and a line pointer of its page.
 #[derive(Clone, Copy)]
@@ -100,4 +104,17 @@ pub fn row_at(page: &Page, offset: u16, len: u16) -> Option<&[u8]>
         return None;
     }
     Some(&page[start..end])
+}
+
+// The header of the version of a line pointer, where there is one.
+pub fn version_of(page: &Page, number: u16) -> Option<VersionHeader>
+    ensures { λ r. ⌜ r ≡ headerNo (now (page .entry)) number ⌝ }
+{
+    if number < 1 || pointer_count(page) < number {
+        return None;
+    }
+    let Pointer::Normal { offset, len: _ } = pointer_at(page, number) else {
+        return None;
+    };
+    version_at(page, offset)
 }

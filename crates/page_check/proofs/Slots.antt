@@ -12,12 +12,12 @@ use Rattle.std.proofs.shelf.Tests.{and-parts, and-from, and-left, and-right, le
 use Rattle.page.specs.Headers.{countOf}
 use Rattle.page.specs.LinePointers.{pointerAt}
 use Rattle.page.specs.Versions.{headerAt, versionAt}
-use Rattle.page.specs.Slots.{Slot, slotOf, slotNo}
+use Rattle.page.specs.Slots.{Slot, slotOf, slotNo, headerIn, headerNo}
 use Rattle.page.specs.Slots.Slot.{unused, dead, redirect, holds}
 use Rattle.page.specs.declared.line_pointers.Pointer.{Pointer}
 use Rattle.page.specs.declared.line_pointers.Pointer.the-variants.{Unused, Normal, Redirect, Dead}
 use Rattle.page.specs.declared.versions.VersionHeader.{VersionHeader}
-use Rattle.page_check.specs.Marking.{Lies, LiesIn, AllLie, headerIn, headerNo}
+use Rattle.page_check.specs.Marking.{Lies, LiesIn, AllLie}
 
 pub slotNo-in : (p : List ℕ) (n : ℕ) → 1 ≤ n → n ≤ countOf p → slotNo p n ≡ slotOf p (pointerAt p n)
 slotNo-in p n a b =

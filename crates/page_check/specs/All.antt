@@ -20,10 +20,14 @@ anyTo f (suc n) = f n || anyTo f n
 abbrev pub each : (ℕ → Bool) → ℕ → Bool
 each f n = allTo (λ k. f (k + 1)) n
 
--- what f finds at the first of the numbers 1 to n at which it finds something
+-- what f finds at the first of the numbers below n at which it finds something
+abbrev pub firstBelow : {A : Type 0} → (ℕ → Option A) → ℕ → Option A
+firstBelow f zero = None
+firstBelow f (suc n) = orOther (firstBelow f n) (f n)
+
+-- the same of the numbers 1 to n
 abbrev pub firstTo : {A : Type 0} → (ℕ → Option A) → ℕ → Option A
-firstTo f zero = None
-firstTo f (suc n) = orOther (firstTo f n) (f (n + 1))
+firstTo f n = firstBelow (λ k. f (k + 1)) n
 
 -- all rules of a list hold
 abbrev pub allOf : {R : Type 0} → (R → Bool) → List R → Bool

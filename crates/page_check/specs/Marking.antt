@@ -1,19 +1,15 @@
 -- How overlap and naming are found in one pass: each version marks its cells of eight bytes, each name its number.
 use mathlib.Core.Bool.{Bool, true, false, cond, _&&_, _||_, not}
-use mathlib.Core.List.{List}
+use mathlib.Core.List.{List, []}
 use mathlib.Core.Path.{_≡_}
 use borrow.Rule.Slice.PartMut.{putMid}
 use Prim.Native.Nat.{ℕ, _+_, _-_, _/_, _%_, _<_, _≤_}
 use lib.Dec.{eqb, leb, ltb}
-use lib.ListN.{getD, set, replicate}
-use Rattle.std.specs.declared.option.Option.{Option}
-use Rattle.std.specs.declared.option.Option.the-variants.{Some, None}
+use lib.ListN.{length, getD, set, replicate}
 use Rattle.page.specs.LinePointers.{pointerAt}
 use Rattle.page.specs.Headers.{countOf}
-use Rattle.page.specs.Versions.{versionAt}
 use Rattle.page.specs.declared.line_pointers.Pointer.{Pointer}
 use Rattle.page.specs.declared.line_pointers.Pointer.the-variants.{Unused, Normal, Redirect, Dead}
-use Rattle.page.specs.declared.versions.VersionHeader.{VersionHeader}
 use Rattle.page_check.specs.All.{allTo}
 
 -- where a version lies, as the rules of its pointer have it
@@ -31,6 +27,10 @@ LiesIn Dead = Unit {0}
 -- all versions of a page lie so
 abbrev pub AllLie : List ℕ → Type 0
 AllLie p = (k : ℕ) → k < countOf p → LiesIn (pointerAt p (k + 1))
+
+-- and those of all pages of a heap
+abbrev pub PagesLie : List (List ℕ) → Type 0
+PagesLie pages = (k : ℕ) → k < length pages → AllLie (getD pages k [])
 
 -- the cells of a version
 abbrev pub firstCell : ℕ → ℕ
@@ -61,16 +61,6 @@ cellsTaken cells Unused = cells
 cellsTaken cells (Normal o n) = putMid (firstCell o) (endCell o n - firstCell o) cells (replicate (endCell o n - firstCell o) true)
 cellsTaken cells (Redirect t) = cells
 cellsTaken cells Dead = cells
-
--- the header of the version of number n, where there is one
-abbrev pub headerIn : List ℕ → Pointer → Option VersionHeader
-headerIn p Unused = None
-headerIn p (Normal o n) = versionAt p o
-headerIn p (Redirect t) = None
-headerIn p Dead = None
-
-abbrev pub headerNo : List ℕ → ℕ → Option VersionHeader
-headerNo p n = cond (leb 1 n && leb n (countOf p)) (headerIn p (pointerAt p n)) None
 
 -- the name t is none or free, and is then taken
 abbrev pub nameFree : List Bool → ℕ → Bool

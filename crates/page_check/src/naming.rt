@@ -6,48 +6,34 @@ ghost use Rattle.page.specs.LinePointers.{pointerAt};
 ghost use Rattle.page.specs.Slots.{slotOf, slotNo};
 ghost use Rattle.page_check.specs.Rules.{isHeapOnly, isMadeBy, nameOf, leadsWell};
 ghost use Rattle.page_check.specs.Lawful.{amongBroken};
-ghost use Rattle.page_check.specs.Marking.{AllLie, headerNo, nameFree, nameTaken};
+ghost use Rattle.page_check.specs.Marking.{AllLie, nameFree, nameTaken};
 ghost use Rattle.page_check.specs.declared.rules.PageRule.the-variants.{RedirectTarget, NamedOnce};
 use crate::rules::Broken;
 use crate::rules::PageRule;
 use page::Mark;
 use page::Page;
 use page::Pointer;
-use page::VersionHeader;
 use page::pointer_at;
 use page::version_at;
+use page::version_of;
 
-// The header of the version of a line pointer, where there is one.
-fn version_of(page: &Page, count: u16, number: u16) -> Option<VersionHeader>
-    requires { ⌜ count ≡ countOf (now page) ⌝ }
-    ensures { λ r. ⌜ r ≡ headerNo (now (page .entry)) number ⌝ }
-{
-    if number < 1 || count < number {
-        return None;
-    }
-    let Pointer::Normal { offset, len: _ } = pointer_at(page, number) else {
-        return None;
-    };
-    version_at(page, offset)
-}
-
-fn is_heap_only(page: &Page, count: u16, number: u16) -> bool
-    requires count { ⌜ count ≡ countOf (now page) ⌝ }
-    requires lie { ⌜ AllLie (now page) ⌝ }
+// Whether a line pointer has a heap-only version.
+fn is_heap_only(page: &Page, number: u16) -> bool
+    requires { ⌜ AllLie (now page) ⌝ }
     ensures { λ r. ⌜ r ≡ isHeapOnly (slotNo (now (page .entry)) number) ⌝ }
 {
-    match version_of(page, count, number) {
+    match version_of(page, number) {
         Some(version) => version.has(Mark::HeapOnly),
         None => false,
     }
 }
 
-fn is_made_by(page: &Page, count: u16, number: u16, creator: u32) -> bool
-    requires count { ⌜ count ≡ countOf (now page) ⌝ }
-    requires lie { ⌜ AllLie (now page) ⌝ }
+// Whether a line pointer has a heap-only version of a creator.
+fn is_made_by(page: &Page, number: u16, creator: u32) -> bool
+    requires { ⌜ AllLie (now page) ⌝ }
     ensures { λ r. ⌜ r ≡ isMadeBy creator (slotNo (now (page .entry)) number) ⌝ }
 {
-    match version_of(page, count, number) {
+    match version_of(page, number) {
         Some(version) => version.has(Mark::HeapOnly) && version.creator == creator,
         None => false,
     }
@@ -64,7 +50,7 @@ fn name_of(page: &Page, block: u32, count: u16, number: u16) -> u16
     match pointer_at(page, number) {
         Pointer::Unused => 0,
         Pointer::Dead => 0,
-        Pointer::Redirect(target) => if is_heap_only(page, count, target) {
+        Pointer::Redirect(target) => if is_heap_only(page, target) {
             target
         } else {
             0
@@ -76,7 +62,7 @@ fn name_of(page: &Page, block: u32, count: u16, number: u16) -> u16
             let named = version.ctid.pointer;
             if version.has(Mark::HotUpdated)
                 && version.ctid.block == block
-                && is_made_by(page, count, named, version.remover)
+                && is_made_by(page, named, version.remover)
             {
                 named
             } else {
@@ -86,13 +72,12 @@ fn name_of(page: &Page, block: u32, count: u16, number: u16) -> u16
     }
 }
 
-fn leads_well(page: &Page, count: u16, number: u16) -> bool
-    requires count { ⌜ count ≡ countOf (now page) ⌝ }
-    requires lie { ⌜ AllLie (now page) ⌝ }
+fn leads_well(page: &Page, number: u16) -> bool
+    requires { ⌜ AllLie (now page) ⌝ }
     ensures { λ r. ⌜ r ≡ leadsWell (slotNo (now (page .entry))) (slotOf (now (page .entry)) (pointerAt (now (page .entry)) number)) ⌝ }
 {
     match pointer_at(page, number) {
-        Pointer::Redirect(target) => is_heap_only(page, count, target),
+        Pointer::Redirect(target) => is_heap_only(page, target),
         _ => true,
     }
 }
@@ -105,7 +90,7 @@ pub(crate) fn first_stray_redirect(page: &Page, count: u16) -> Option<Broken>
     ensures { λ r. ⌜ r ≡ amongBroken 0 (now (page .entry)) RedirectTarget ⌝ }
 {
     for i in 0..count {
-        if !leads_well(page, count, i + 1) {
+        if !leads_well(page, i + 1) {
             return Some(Broken::Among(i + 1, PageRule::RedirectTarget));
         }
     }

@@ -1,6 +1,6 @@
 // Pages built byte by byte.
-use page::Page;
 use page::PAGE_SIZE;
+use page::Page;
 
 pub(crate) fn put_byte(page: &mut Page, at: usize, byte: u8) {
     if at < PAGE_SIZE {
@@ -38,7 +38,9 @@ pub(crate) fn put_pointer(page: &mut Page, number: u16, word: u32) {
 }
 
 pub(crate) fn normal(offset: u32, len: u32) -> u32 {
-    offset.saturating_add(0x8000).saturating_add(len.saturating_mul(0x2_0000))
+    offset
+        .saturating_add(0x8000)
+        .saturating_add(len.saturating_mul(0x2_0000))
 }
 
 pub(crate) fn redirect(target: u32) -> u32 {
@@ -56,7 +58,13 @@ pub(crate) struct Head {
 }
 
 // Inserted by transaction 100 and untouched since.
-pub(crate) const FRESH: Head = Head { creator: 100, remover: 0, ctid: (0, 1), infomask2: 1, infomask: 0x0800 };
+pub(crate) const FRESH: Head = Head {
+    creator: 100,
+    remover: 0,
+    ctid: (0, 1),
+    infomask2: 1,
+    infomask: 0x0800,
+};
 
 // Writes the header of a version and the kind of its row; the body stays zero.
 pub(crate) fn put_version(page: &mut Page, offset: u16, head: Head, kind: u8) {
@@ -83,8 +91,30 @@ pub(crate) fn one_row() -> Page {
 pub(crate) fn hot_pair(lower: u16) -> Page {
     let mut page = bare_page(lower, 8112);
     put_pointer(&mut page, 1, normal(8152, 33));
-    put_version(&mut page, 8152, Head { remover: 101, ctid: (0, 2), infomask2: 0x4001, infomask: 0, ..FRESH }, 1);
+    put_version(
+        &mut page,
+        8152,
+        Head {
+            remover: 101,
+            ctid: (0, 2),
+            infomask2: 0x4001,
+            infomask: 0,
+            ..FRESH
+        },
+        1,
+    );
     put_pointer(&mut page, 2, normal(8112, 33));
-    put_version(&mut page, 8112, Head { creator: 101, ctid: (0, 2), infomask2: 0x8001, infomask: 0x2800, ..FRESH }, 1);
+    put_version(
+        &mut page,
+        8112,
+        Head {
+            creator: 101,
+            ctid: (0, 2),
+            infomask2: 0x8001,
+            infomask: 0x2800,
+            ..FRESH
+        },
+        1,
+    );
     page
 }

@@ -1,31 +1,31 @@
 // What the rules say of these pages.
+use crate::build::FRESH;
 use crate::build::bare_page;
 use crate::build::hot_pair;
 use crate::build::normal;
 use crate::build::one_row;
-use crate::build::put16;
 use crate::build::put_pointer;
 use crate::build::put_version;
+use crate::build::put16;
 use crate::build::redirect;
-use crate::build::FRESH;
-use heap_report::pages_in;
 use heap_report::SizeFault;
 use heap_report::SizeFaultDisplay;
-use page::line_pointer_at;
-use page::row_fits;
-use page::standard_kinds;
-use page::version_at;
+use heap_report::pages_in;
 use page::Kind;
 use page::Mark;
 use page::Page;
 use page::PageHeader;
 use page::State;
-use page_check::first_broken;
-use page_check::is_lawful;
+use page::line_pointer_at;
+use page::row_fits;
+use page::standard_kinds;
+use page::version_at;
 use page_check::Broken;
 use page_check::HeaderRule;
 use page_check::PageRule;
 use page_check::PointerRule;
+use page_check::first_broken;
+use page_check::is_lawful;
 use std::test::*;
 
 fn broken(page: &Page) -> Option<Broken> {
@@ -40,17 +40,35 @@ fn lawful(page: &Page) -> bool {
 fn at_most_291_pointers() -> Result<(), Fail> {
     check(lawful(&bare_page(24, 8192)))?;
     check(lawful(&bare_page(24 + 4 * 291, 8192)))?;
-    check(matches!(broken(&bare_page(24 + 4 * 292, 8192)), Some(Broken::InHeader(HeaderRule::PointerLimit))))
+    check(matches!(
+        broken(&bare_page(24 + 4 * 292, 8192)),
+        Some(Broken::InHeader(HeaderRule::PointerLimit))
+    ))
 }
 
 #[test]
 fn lower_and_upper_at_their_limits() -> Result<(), Fail> {
     check(lawful(&bare_page(1184, 1184)))?;
-    check(matches!(broken(&bare_page(20, 8192)), Some(Broken::InHeader(HeaderRule::LowerPastHeader))))?;
-    check(matches!(broken(&bare_page(1184, 1176)), Some(Broken::InHeader(HeaderRule::LowerByUpper))))?;
-    check(matches!(broken(&bare_page(24, 8200)), Some(Broken::InHeader(HeaderRule::UpperInPage))))?;
-    check(matches!(broken(&bare_page(26, 8192)), Some(Broken::InHeader(HeaderRule::WholePointers))))?;
-    check(matches!(broken(&bare_page(24, 8188)), Some(Broken::InHeader(HeaderRule::UpperAligned))))
+    check(matches!(
+        broken(&bare_page(20, 8192)),
+        Some(Broken::InHeader(HeaderRule::LowerPastHeader))
+    ))?;
+    check(matches!(
+        broken(&bare_page(1184, 1176)),
+        Some(Broken::InHeader(HeaderRule::LowerByUpper))
+    ))?;
+    check(matches!(
+        broken(&bare_page(24, 8200)),
+        Some(Broken::InHeader(HeaderRule::UpperInPage))
+    ))?;
+    check(matches!(
+        broken(&bare_page(26, 8192)),
+        Some(Broken::InHeader(HeaderRule::WholePointers))
+    ))?;
+    check(matches!(
+        broken(&bare_page(24, 8188)),
+        Some(Broken::InHeader(HeaderRule::UpperAligned))
+    ))
 }
 
 // No row of the standard kinds has a length that is a multiple of 8, so a kind of its own makes the edge exact.
@@ -63,7 +81,10 @@ fn a_version_may_end_at_8192() -> Result<(), Fail> {
     check(is_lawful(&kinds, &page, 0))?;
     put_version(&mut page, 8160, FRESH, 10);
     put_pointer(&mut page, 1, normal(8160, 33));
-    check(matches!(first_broken(&kinds, &page, 0), Some(Broken::AtPointer(1, PointerRule::EndsInPage))))
+    check(matches!(
+        first_broken(&kinds, &page, 0),
+        Some(Broken::AtPointer(1, PointerRule::EndsInPage))
+    ))
 }
 
 #[test]
@@ -71,7 +92,10 @@ fn a_redirect_leads_to_a_heap_only_version() -> Result<(), Fail> {
     let mut page = one_row();
     put16(&mut page, 12, 32);
     put_pointer(&mut page, 2, redirect(1));
-    check(matches!(broken(&page), Some(Broken::Among(2, PageRule::RedirectTarget))))?;
+    check(matches!(
+        broken(&page),
+        Some(Broken::Among(2, PageRule::RedirectTarget))
+    ))?;
     put16(&mut page, 8152 + 18, 0x8001);
     check(lawful(&page))
 }
@@ -127,5 +151,8 @@ fn sizes_of_images(rt: LibcRuntime) -> Result<(), Fail> {
         return Err(Fail::new("8200 bytes are taken"));
     };
     let text = format!(rt.alloc(), "{fault}")?;
-    check(text.as_str() == "8200 bytes are not whole pages (8 over); a heap image has 1 to 64 whole pages of 8192 bytes")
+    check(
+        text.as_str()
+            == "8200 bytes are not whole pages (8 over); a heap image has 1 to 64 whole pages of 8192 bytes",
+    )
 }

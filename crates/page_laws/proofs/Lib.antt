@@ -1,0 +1,4 @@
+pub mod Facts
+pub mod Windows
+pub mod Views
+pub mod Own
