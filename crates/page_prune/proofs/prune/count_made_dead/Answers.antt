@@ -1,0 +1,25 @@
+use mathlib.Core.Path.{_≡_, ap, _∙_}
+use Prim.Native.Nat.{ℕ, _+_}
+use lib.ListN.{length}
+use native.Mathlib.Omega.{arith}
+use Rattle.page.specs.Slots.{Slot, slotAt, viewOf}
+use Rattle.page_laws.proofs.Views.{view-length}
+use Rattle.page_prune.specs.Pruned.{countTo, becomesDead, slotAfter, outcomeIn}
+use Rattle.page_prune.proofs.Counts.{slot-at, count-yes, count-no}
+use Rattle.page_prune.proofs.prune.count_made_dead.Needs as need
+use Rattle.page_prune.proofs.prune.count_made_dead.Needs.{then-makes-dead, else-makes-dead}
+
+pub loop-i-again : need.loop-i-again
+loop-i-again c =
+    let ss = viewOf (c .args .page .now) in let os = outcomeIn (c .args .outcomes .now) in let n = c .loop-i .i + 1 in
+    let e = ap (λ (s : Slot). becomesDead s (slotAfter (os n) s)) (slot-at (c .args .page .now) n (omega arith) (omega arith)) in
+    elim (c .if-makes-dead .came) [
+      | then-makes-dead w ↦ (count-yes (λ k. becomesDead (slotAt ss k) (slotAfter (os k) (slotAt ss k))) (c .loop-i .i) (c .loop-i .made-dead) (c .if-makes-dead .made-dead) (c .loop-i .inv .0) (w .if-makes-dead .ensures tt ∙ e) (w .made-dead-is), omega (arith, w .made-dead-is))
+      | else-makes-dead w ↦ (count-no (λ k. becomesDead (slotAt ss k) (slotAfter (os k) (slotAt ss k))) (c .loop-i .i) (c .loop-i .made-dead) (c .if-makes-dead .made-dead) (c .loop-i .inv .0) (w .if-makes-dead .ensures tt ∙ e) (w .made-dead-is), omega (arith, w .made-dead-is))
+    ]
+
+pub returns : need.returns
+returns c =
+    let ss = viewOf (c .args .page .now) in let os = outcomeIn (c .args .outcomes .now) in
+    let e : c .loop-i .i ≡ length ss = omega (arith, view-length (c .args .page .now)) in
+    c .loop-i .inv .0 ∙ ap (countTo (λ k. becomesDead (slotAt ss k) (slotAfter (os k) (slotAt ss k)))) e

@@ -1,0 +1,5 @@
+pub mod Chains
+pub mod Pruned
+pub mod Marking
+pub mod Laws
+pub mod Example

@@ -1,0 +1,11 @@
+pub mod Names
+pub mod Beside
+pub mod Encoded
+pub mod Rewriting
+pub mod Changes
+pub mod Naming
+pub mod ChangeAll
+pub mod Written
+pub mod Putting
+pub mod PutLaw
+pub mod Filling
