@@ -1,0 +1,4 @@
+pub mod Firsts
+pub mod Shown
+pub mod Blocks
+pub mod Walks

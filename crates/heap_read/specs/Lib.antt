@@ -1,0 +1,4 @@
+pub mod Asked
+pub mod Fates
+pub mod Reading
+pub mod Links
