@@ -1,5 +1,6 @@
 -- A whole page changed version by version: its slots, and the counts on the page as it was.
 use mathlib.Core.Path.{_≡_, refl, sym, ap, _∙_}
+use mathlib.Core.Bool.{true}
 use mathlib.Core.List.{List, map}
 use Prim.Native.Nat.{ℕ, zero, suc, _+_, _<_, _≤_}
 use native.Mathlib.Omega.{arith}
@@ -14,6 +15,7 @@ use Rattle.page.specs.Versions.{headerAt, rowOf}
 use Rattle.page.specs.declared.kinds.Kind.{Kind}
 use Rattle.page.specs.declared.line_pointers.Pointer.{Pointer}
 use Rattle.page.specs.declared.line_pointers.Pointer.the-variants.{Unused, Normal, Redirect, Dead}
+use Rattle.page_check.specs.Lawful.{lawful?}
 use Rattle.page_check.specs.Marking.{LiesIn}
 use Rattle.page_check.proofs.Slots.{slotNo-in}
 use Rattle.page_laws.specs.Keeps.{Keeps}
@@ -36,12 +38,25 @@ per-slot c q (Normal o n) l =
     let e = l .ends in let k = l .holdsKind in
     cond-true (leb (o + 24) 8192) (c (decoded (headerAt q o) (rowOf q o n))) 0 (le-leb (o + 24) 8192 (omega arith))
 
-module _ (kinds : List Kind) (b : ℕ) (p : List ℕ) (s : Sound kinds b p) (f : Version → Version) (mild : (u : Version) → Replaces u u → Milder u (f u)) where
+-- a lawful page whose versions can be written as they stand
+pub record Ready (kinds : List Kind) (b : ℕ) (p : List ℕ) : Type 0 where
+  pub long : length p ≡ 8192
+  pub lawful : lawful? kinds b p ≡ true
+  pub same : (k : ℕ) (u : Version) → slotAt (viewOf p) k ≡ holds u → Replaces u u
+
+pub ready : (kinds : List Kind) (b : ℕ) (p : List ℕ) → Sound kinds b p → Ready kinds b p
+ready kinds b p s = record {
+  long = s .long;
+  lawful = s .lawful;
+  same = λ k u e. same-replaces kinds b p k u (s .bytes) (lawful-tells kinds b p (s .lawful)) e;
+}
+
+module _ (kinds : List Kind) (b : ℕ) (p : List ℕ) (s : Ready kinds b p) (f : Version → Version) (mild : (u : Version) → Replaces u u → Milder u (f u)) where
   keeps : Keeps kinds b p
   keeps = lawful-tells kinds b p (s .lawful)
 
   milder : (k : ℕ) (u : Version) → slotAt (viewOf p) k ≡ holds u → Milder u (f u)
-  milder k u e = mild u (same-replaces kinds b p k u (s .bytes) keeps e)
+  milder k u e = mild u (s .same k u e)
 
   pub becomes : Becomes kinds b (changeTo f p (countOf p)) (map (onVersion f) (viewOf p))
   becomes =

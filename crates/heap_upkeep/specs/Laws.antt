@@ -12,10 +12,13 @@ use Rattle.page.specs.declared.kinds.Kind.{Kind}
 use Rattle.page_check.specs.Lawful.{lawful?}
 use Rattle.page_write_laws.specs.Laws.{Becomes}
 use Rattle.page_write_laws.specs.Slots.{onVersion}
+use Rattle.page_prune.specs.Pruned.{prunedSlots}
 use Rattle.xid.specs.declared.statuses.Status.{Status}
+use Rattle.heap_read.specs.Links.{linkAt}
 use Rattle.heap_upkeep.specs.Along.{one}
 use Rattle.heap_upkeep.specs.Hints.{hinted, bitsSet, hintedPage, hintCount}
 use Rattle.heap_upkeep.specs.Freezing.{toFreeze, toClear, frozenAt, markedPage, frozenCount, clearedCount}
+use Rattle.heap_upkeep.specs.Pruning.{deadAt, prunedAt}
 
 abbrev pub inSlot : (Version → ℕ) → Slot → ℕ
 inSlot b unused = 0
@@ -54,3 +57,8 @@ pub record Marks-mean (told : ℕ → Status) (c : ℕ) (kinds : List Kind) (b :
 
 abbrev pub Marks-law : Type 0
 Marks-law = (told : ℕ → Status) (c : ℕ) (kinds : List Kind) (b : ℕ) (p : List ℕ) → Sound kinds b p → Marks-mean told c kinds b p
+
+-- a freeze prunes the slots and then marks each version that is left; a lawful page stays lawful
+abbrev pub Freeze-law : Type 0
+Freeze-law = (told : ℕ → Status) (h c : ℕ) (kinds : List Kind) (b : ℕ) (p : List ℕ) → Sound kinds b p
+    → Becomes kinds b (markedPage told c (prunedAt told h b p)) (map (onVersion (frozenAt told c)) (prunedSlots (linkAt told b p) (deadAt told h p) (viewOf p)))

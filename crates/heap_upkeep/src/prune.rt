@@ -1,5 +1,7 @@
 // Pruning of a page at a horizon.
 ghost use mathlib.Core.Path.{_≡_};
+ghost use Prim.Native.Nat.{_≤_};
+ghost use Rattle.page.specs.Headers.{countOf};
 ghost use Rattle.heap_read.specs.Asked.{Asked};
 ghost use Rattle.heap_upkeep.specs.Pruning.{LawfulOn, Prunes};
 use crate::dead::dead_ones;
@@ -19,6 +21,7 @@ pub fn prune_at<S: StatusSource>(
 ) -> PruneCount
     requires { ⌜ LawfulOn block (now page) ⌝ }
     ensures lawful { λ _. ⌜ LawfulOn block (now (page .exit)) ⌝ }
+    ensures few { λ _. ⌜ countOf (now (page .exit)) ≤ 291 ⌝ }
     ensures told { λ r. ⌜ (S·StatusSource .sound (now (source .entry)) → Asked (S·StatusSource .sound (now (source .exit))) (S·StatusSource .meaning (now (source .entry))) (S·StatusSource .meaning (now (source .exit))) (Prunes (S·StatusSource .meaning (now (source .entry)) .status) horizon block (now (page .entry)) (now (page .exit)) (r .removed) (r .«made_dead»))) ⌝ }
 {
     let next = links_of(source, page, block);

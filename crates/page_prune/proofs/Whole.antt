@@ -24,6 +24,7 @@ use Rattle.page_laws.proofs.Views.{view-at, view-fun, view-get, view-length}
 use Rattle.page_compact.specs.Compaction.{compacted}
 use Rattle.page_compact.specs.Laws.{slotSize, Compacts}
 use Rattle.page_compact.proofs.Sound.{Sound, sound-of}
+use Rattle.page_compact.proofs.Compact.{compacted-long}
 use Rattle.page_compact.proofs.Uppers.{compacts}
 use Rattle.page_prune.specs.Chains.{Links, walk, startOf, anyDead, chainOf}
 use Rattle.page_prune.specs.Pruned.{outcome, slotAfter, prunedSlot, prunedSlots, isChange, repointTo, prunedPage}
@@ -139,6 +140,13 @@ module _ (kinds : List Kind) (b : ℕ) (nx : ℕ → ℕ) (isDead : ℕ → Bool
         room = λ t. absurd (both-ways (changed nx isDead p) h t);
         padding = λ t. absurd (both-ways (changed nx isDead p) h t);
       }))
+      (cases-bool (changed nx isDead p))
+
+  pub pruned-length : length (prunedPage nx isDead p) ≡ 8192
+  pruned-length =
+      ⊎-elim
+      (λ (h : changed nx isDead p ≡ true). ap length (cond-true (changed nx isDead p) (compacted q) p h) ∙ compacted-long kinds q (turned .long) (turned .sound))
+      (λ (h : changed nx isDead p ≡ false). ap length (cond-false (changed nx isDead p) (compacted q) p h) ∙ len)
       (cases-bool (changed nx isDead p))
 
   pub chains-end : (m : ℕ) → m ≤ countOf p → walk nx (length (viewOf p)) (startOf m (slotAt (viewOf p) m)) ≡ 0

@@ -37,12 +37,12 @@ returns g c =
     let b = c .args .block in
     let k = lawful-tells (c .pre .kinds) b p (c .pre .lawful) in
     let links = along-links (c .pre .kinds) b p k (c .links-of-next .result) (c .links-of-next .ensures .along) in
+    let after : lawful? (c .pre .kinds) b (c .prune-page .last .page) ≡ true =
+    subst (λ (q : List ℕ). lawful? (c .pre .kinds) b q ≡ true) (sym (c .prune-page .ensures .page))
+    (still-lawful (c .pre .kinds) b (nextIn (c .links-of-next .result)) (deadIn (c .dead-ones-dead .result)) p (c .told-page) (c .pre .lawful) links .lawful) in
     record {
-      lawful = record {
-        kinds = c .pre .kinds;
-        lawful = subst (λ (q : List ℕ). lawful? (c .pre .kinds) b q ≡ true) (sym (c .prune-page .ensures .page))
-            (still-lawful (c .pre .kinds) b (nextIn (c .links-of-next .result)) (deadIn (c .dead-ones-dead .result)) p (c .told-page) (c .pre .lawful) links .lawful);
-      };
+      lawful = record { kinds = c .pre .kinds; lawful = after };
+      few = lawful-tells (c .pre .kinds) b (c .prune-page .last .page) after .header .pointerLimit;
       told = λ s.
           let e = c .links-of-next .ensures .told s in
           let f = c .dead-ones-dead .ensures (e .sound) in
