@@ -1,12 +1,5 @@
 // Theorems about the definitions that the contracts use. Each function's contract is its theorem.
-ghost use Rattle.snapshot.specs.Laws.{Edges, NearestIsLeast, HorizonIsLeast};
-
-// The edges of the order of numbers and of what is running, worked out by the definitions.
-pub fn edges_are_right() -> u8
-    ensures { λ _. ⌜ Edges ⌝ }
-{
-    0
-}
+ghost use Rattle.snapshot.specs.Laws.{NearestIsLeast, HorizonIsLeast};
 
 // The nearest number has the least distance of all, and is one of them.
 pub fn nearest_is_least() -> u8

@@ -5,7 +5,7 @@
 // about. The calls of an archive are made of these operations.
 //
 // Proved here: what each operation answers and leaves, by equality; what holds of every snapshot that is taken of a
-// sound source; and the edges of the order of numbers (`laws`).
+// sound source; and that the horizon is the least of the numbers it is taken from (`laws`).
 // Left to others: that the list has exactly the open numbers of the source, which the calls above keep.
 
 pub mod active;

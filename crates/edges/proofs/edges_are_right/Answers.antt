@@ -11,7 +11,7 @@ use Rattle.edges.proofs.edges_are_right.Needs as need
 
 pub returns : need.returns
 returns c = record {
-  numbers = search needs;
+  order = search needs;
   row185 = λ vs each k.
       let few : length vs ≤ 185 = omega (arith, k) in
       filled-takes (putAll emptyPage vs) 33 (length vs) (all-filled 33 vs each few) 0 ∙ ap (λ (n : ℕ). ltb n 185) k;
