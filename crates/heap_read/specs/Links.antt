@@ -17,6 +17,7 @@ use Rattle.xid.specs.declared.statuses.Status.{Status}
 use Rattle.snapshot.specs.Snapshots.{SnapshotData}
 use Rattle.heap_read.specs.Fates.{creatorFate, removerFate}
 use Rattle.page.specs.declared.versions.Address.{Address}
+use Rattle.page_laws.specs.Chains.{chain}
 use Rattle.heap_read.specs.Reading.{visibleSlot, addressIn}
 use Rattle.heap_read.specs.declared.fates.CreatorFate.{CreatorFate}
 use Rattle.heap_read.specs.declared.fates.CreatorFate.the-variants as creator
@@ -69,12 +70,6 @@ isRoot dead = true
 isRoot (redirect t) = true
 isRoot (holds v) = not (v .heapOnly)
 
--- the pointers reached from m by `next`, m itself first, as many as `most`; 0 is none
-abbrev pub reached : (ℕ → ℕ) → ℕ → ℕ → List ℕ
-reached next zero m = []
-reached next (suc most) zero = []
-reached next (suc most) (suc m) = suc m ∷ reached next most (next (suc m))
-
 -- the first of a list that passes a test
 abbrev pub firstIn : (ℕ → Bool) → List ℕ → Option ℕ
 firstIn f [] = None
@@ -83,7 +78,7 @@ firstIn f (x ∷ xs) = cond (f x) (Some x) (firstIn f xs)
 -- the first visible version that is reached from a root: a chain has no more members than the page has pointers
 abbrev pub fetchOn : (ℕ → Status) → SnapshotData → ℕ → List ℕ → ℕ → Option ℕ
 fetchOn told s b p root =
-    firstIn (λ n. visibleSlot told s (slotNo p n)) (reached (linkAt told b p) (suc (countOf p)) root)
+    firstIn (λ n. visibleSlot told s (slotNo p n)) (chain (linkAt told b p) (suc (countOf p)) root)
 
 -- the same by the address of the root, in the heap
 abbrev pub fetchIn : (ℕ → Status) → SnapshotData → List (List ℕ) → Address → Option Address

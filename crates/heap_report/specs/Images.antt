@@ -10,6 +10,7 @@ use Rattle.page.specs.LinePointers.{stateCode, linePointerAt}
 use Rattle.page.specs.declared.line_pointers.State.{State}
 use Rattle.heap_report.specs.declared.image.SizeFault.{SizeFault}
 use Rattle.heap_report.specs.declared.image.SizeFault.the-variants.{Empty, BrokenPage, TooManyPages}
+use Rattle.page_check.specs.All.{countTo}
 
 -- 1 to 64 whole pages
 abbrev pub pagesIn : ℕ → Result ℕ SizeFault
@@ -18,11 +19,6 @@ pagesIn n =
     (cond (eqb (n % 8192) 0)
     (cond (leb (n / 8192) 64) (Ok (n / 8192)) (Err (TooManyPages n)))
     (Err (BrokenPage n)))
-
--- of how many of the numbers 1 to n the test f holds
-abbrev pub countTo : (ℕ → Bool) → ℕ → ℕ
-countTo f zero = 0
-countTo f (suc n) = cond (f (n + 1)) 1 0 + countTo f n
 
 -- the pointer n is in the state of a code
 abbrev pub inState : List ℕ → ℕ → ℕ → Bool

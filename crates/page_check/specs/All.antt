@@ -20,6 +20,11 @@ anyTo f (suc n) = f n || anyTo f n
 abbrev pub each : (ℕ → Bool) → ℕ → Bool
 each f n = allTo (λ k. f (k + 1)) n
 
+-- of how many of the numbers 1 to n f holds
+abbrev pub countTo : (ℕ → Bool) → ℕ → ℕ
+countTo f zero = 0
+countTo f (suc n) = cond (f (n + 1)) 1 0 + countTo f n
+
 -- what f finds at the first of the numbers below n at which it finds something
 abbrev pub firstBelow : {A : Type 0} → (ℕ → Option A) → ℕ → Option A
 firstBelow f zero = None

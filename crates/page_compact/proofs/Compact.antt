@@ -36,7 +36,8 @@ use Rattle.page_laws.specs.Windows.{Same}
 use Rattle.page_laws.proofs.Windows.{same-put16, get16-same, get32-same, get16-put16, length-put16}
 use Rattle.page_laws.proofs.Own.{VersionKeeps, OwnKeeps, own-tells, own-from}
 use Rattle.page_laws.proofs.Views.{view-get, view-length}
-use Rattle.page_compact.specs.Compaction.{roundedUp, sizeOf, topTo, laidTo, compacted}
+use Rattle.page_room.specs.Room.{up8}
+use Rattle.page_compact.specs.Compaction.{sizeOf, topTo, laidTo, compacted}
 use Rattle.page_compact.specs.Laws.{Padded}
 use Rattle.page_compact.proofs.Sound.{Sound, lower-above, lies-at}
 use Rattle.page_compact.proofs.Tops.{top-high, top-low, top-step, top-aligned, top-order}
@@ -120,7 +121,7 @@ slot-moved q p t (Normal o n) lq lp l h b =
     ap (λ (v : VersionHeader). holds (decoded v (rowOf q t n))) (shift-header q p t o n (b .0) (omega arith))
     ∙ ap (λ (r : List ℕ). holds (decoded (headerAt p o) r)) (shift-row q p t o n (b .0) (omega arith) lq lp (omega arith) l1)
 
-version-moved : (kinds : List Kind) (q p : List ℕ) (t o n : ℕ) → t % 8 ≡ 0 → headerOf q .upper ≤ t → t + roundedUp n ≤ 8192 → Shift q p t o n → VersionKeeps kinds p o n → VersionKeeps kinds q t n
+version-moved : (kinds : List Kind) (q p : List ℕ) (t o n : ℕ) → t % 8 ≡ 0 → headerOf q .upper ≤ t → t + up8 n ≤ 8192 → Shift q p t o n → VersionKeeps kinds p o n → VersionKeeps kinds q t n
 version-moved kinds q p t o n a d h s k =
     let full = k .lies .holdsKind in
     let e = shift-header q p t o n s (omega arith) in

@@ -21,7 +21,8 @@ use Rattle.page.specs.declared.line_pointers.Pointer.the-variants.{Unused, Norm
 use Rattle.page_check.specs.Marking.{LiesIn, Lies}
 use Rattle.page_laws.specs.Windows.{Same}
 use Rattle.page_laws.proofs.Windows.{same-put32, same-putMid, length-putMid, length-put32, get32-same, get32-put32}
-use Rattle.page_compact.specs.Compaction.{roundedUp, sizeOf, topTo, laid, laidTo, cleared}
+use Rattle.page_room.specs.Room.{up8}
+use Rattle.page_compact.specs.Compaction.{sizeOf, topTo, laid, laidTo, cleared}
 use Rattle.page_compact.proofs.Steps.{topTo-more, laidTo-more}
 use Rattle.page_compact.proofs.Sound.{Sound, lower-above, lies-at}
 use Rattle.page_compact.proofs.Tops.{top-high, top-low, top-step, top-order}
@@ -36,7 +37,7 @@ moved w t Dead = w
 -- the version of a pointer of p lies in q at t, and its padding is zero
 abbrev pub BodyOf : List ℕ → List ℕ → ℕ → Pointer → Type 0
 BodyOf q p t Unused = Unit {0}
-BodyOf q p t (Normal o l) = ((x : ℕ) → x < l → getD q (t + x) 0 ≡ getD p (o + x) 0) × ((k : ℕ) → t + l ≤ k → k < t + roundedUp l → getD q k 0 ≡ 0)
+BodyOf q p t (Normal o l) = ((x : ℕ) → x < l → getD q (t + x) 0 ≡ getD p (o + x) 0) × ((k : ℕ) → t + l ≤ k → k < t + up8 l → getD q k 0 ≡ 0)
 BodyOf q p t (Redirect r) = Unit {0}
 BodyOf q p t Dead = Unit {0}
 
@@ -127,7 +128,7 @@ module _ (kinds : List Kind) (p : List ℕ) (lp : length p ≡ 8192) (s : Sound 
       let h1 = lower-above kinds p s n l in
       let lies : Lies o m = rw e at (lies-at kinds p s n l) in
       let ends = lies .ends in
-      let step : topTo p (n + 1) + roundedUp m ≡ topTo p n = ap (λ (x : Pointer). topTo p (n + 1) + sizeOf x) (sym e) ∙ top-step kinds p s n l in
+      let step : topTo p (n + 1) + up8 m ≡ topTo p n = ap (λ (x : Pointer). topTo p (n + 1) + sizeOf x) (sym e) ∙ top-step kinds p s n l in
       let most = top-low p n in
       let least = floor (n + 1) (omega arith) in
       let t = topTo p (n + 1) in

@@ -22,7 +22,8 @@ use Rattle.page_check.specs.Marking.{LiesIn}
 use Rattle.page_laws.specs.Keeps.{Keeps}
 use Rattle.page_laws.proofs.Facts.{lawful-tells, lawful-from}
 use Rattle.page_laws.proofs.Views.{view-fun}
-use Rattle.page_compact.specs.Compaction.{roundedUp, sizeOf, topTo, compacted}
+use Rattle.page_room.specs.Room.{up8}
+use Rattle.page_compact.specs.Compaction.{sizeOf, topTo, compacted}
 use Rattle.page_compact.specs.Laws.{slotSize, Compacts}
 use Rattle.page_compact.proofs.Packing.{sumTo}
 use Rattle.page_compact.proofs.Sound.{Sound, sound-of, lies-at}
@@ -35,7 +36,7 @@ slot-size p (Redirect t) len l = refl
 slot-size p Dead len l = refl
 slot-size p (Normal o n) len l =
     let a = l .ends in let b = l .holdsKind in
-    ap (λ (k : ℕ). roundedUp (24 + k)) (length-between p (o + 24) (o + n) (omega arith)) ∙ ap roundedUp (omega arith)
+    ap (λ (k : ℕ). up8 (24 + k)) (length-between p (o + 24) (o + n) (omega arith)) ∙ ap up8 (omega arith)
 
 sum-slots : (kinds : List Kind) (p : List ℕ) → length p ≡ 8192 → Sound kinds p → (n : ℕ) → n ≤ countOf p
     → sumBy slotSize (map (λ m. slotOf p (pointerAt p m)) (counting 1 n)) ≡ sumTo (λ k. sizeOf (pointerAt p (k + 1))) n

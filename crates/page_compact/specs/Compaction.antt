@@ -14,6 +14,7 @@ use Rattle.page.specs.declared.line_pointers.Pointer.{Pointer}
 use Rattle.page.specs.declared.line_pointers.Pointer.the-variants.{Unused, Normal, Redirect, Dead}
 use Rattle.page_check.specs.Lawful.{lawful?}
 use Rattle.page_check.specs.Marking.{LiesIn}
+use Rattle.page_room.specs.Room.{up8}
 
 -- a page that is lawful by some table of kinds, as that of some block
 pub record LawfulPage (p : List ℕ) : Type 0 where
@@ -21,14 +22,10 @@ pub record LawfulPage (p : List ℕ) : Type 0 where
   pub block : ℕ
   pub lawful : lawful? kinds block p ≡ true
 
--- n rounded up to a multiple of 8
-abbrev pub roundedUp : ℕ → ℕ
-roundedUp n = (n + 7) / 8 * 8
-
 -- how many bytes the version of a pointer takes, with its padding
 abbrev pub sizeOf : Pointer → ℕ
 sizeOf Unused = 0
-sizeOf (Normal o n) = roundedUp n
+sizeOf (Normal o n) = up8 n
 sizeOf (Redirect t) = 0
 sizeOf Dead = 0
 

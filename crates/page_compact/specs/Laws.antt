@@ -14,19 +14,20 @@ use Rattle.page.specs.declared.line_pointers.Pointer.{Pointer}
 use Rattle.page.specs.declared.line_pointers.Pointer.the-variants.{Unused, Normal, Redirect, Dead}
 use Rattle.page_check.specs.Lawful.{lawful?}
 use Rattle.page_laws.specs.Windows.{Same}
-use Rattle.page_compact.specs.Compaction.{roundedUp, compacted}
+use Rattle.page_room.specs.Room.{up8}
+use Rattle.page_compact.specs.Compaction.{compacted}
 
 -- how many bytes the version of a slot takes, with its padding
 abbrev pub slotSize : Slot → ℕ
 slotSize unused = 0
 slotSize dead = 0
 slotSize (redirect t) = 0
-slotSize (holds v) = roundedUp (24 + length (v .row))
+slotSize (holds v) = up8 (24 + length (v .row))
 
 -- the bytes behind the version of a pointer, up to the next multiple of 8, are zero
 abbrev pub Padded : List ℕ → Pointer → Type 0
 Padded p Unused = Unit {0}
-Padded p (Normal o n) = (k : ℕ) → o + n ≤ k → k < o + roundedUp n → getD p k 0 ≡ 0
+Padded p (Normal o n) = (k : ℕ) → o + n ≤ k → k < o + up8 n → getD p k 0 ≡ 0
 Padded p (Redirect t) = Unit {0}
 Padded p Dead = Unit {0}
 

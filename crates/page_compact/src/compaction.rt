@@ -5,7 +5,8 @@ ghost use Prim.Native.Nat.{_+_, _-_, _≤_};
 ghost use lib.ListN.{replicate};
 ghost use Rattle.page.specs.LinePointers.{pointerAt};
 ghost use Rattle.page_check.specs.Marking.{LiesIn};
-ghost use Rattle.page_compact.specs.Compaction.{LawfulPage, Packs, roundedUp, sizeOf, topTo, cleared, laid, laidTo, compacted};
+ghost use Rattle.page_room.specs.Room.{up8};
+ghost use Rattle.page_compact.specs.Compaction.{LawfulPage, Packs, sizeOf, topTo, cleared, laid, laidTo, compacted};
 use page::PAGE_SIZE;
 use page::Page;
 use page::PageHeader;
@@ -17,7 +18,7 @@ use page::write32;
 // A length rounded up to a multiple of 8.
 fn rounded_up(len: u16) -> u16
     requires { ⌜ len ≤ 8192 ⌝ }
-    ensures { λ r. ⌜ r ≡ roundedUp len ⌝ }
+    ensures { λ r. ⌜ r ≡ up8 len ⌝ }
 {
     (len + 7) / 8 * 8
 }

@@ -1,2 +1,3 @@
 pub mod Keeps
 pub mod Windows
+pub mod Chains

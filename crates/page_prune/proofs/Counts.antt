@@ -15,7 +15,8 @@ use Rattle.page_check.specs.All.{anyTo}
 use Rattle.page_check.proofs.Slots.{slotNo-in}
 use Rattle.page_laws.proofs.Views.{view-at, view-length}
 use Rattle.page_compact.specs.Compaction.{LawfulPage, compacted}
-use Rattle.page_prune.specs.Pruned.{Prunable, outcome, slotAfter, isChange, changedBy, countTo, losesVersion, becomesDead, removedBy, madeDeadBy, repointed, repointTo, prunedBy}
+use Rattle.page_check.specs.All.{countTo}
+use Rattle.page_prune.specs.Pruned.{Prunable, outcome, slotAfter, isChange, changedBy, losesVersion, becomesDead, removedBy, madeDeadBy, repointed, repointTo, prunedBy}
 use Rattle.page_prune.specs.declared.outcomes.Outcome.{Outcome}
 use Rattle.page_prune.proofs.Whole.{repointed-lawful}
 

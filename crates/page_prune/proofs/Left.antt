@@ -17,7 +17,8 @@ use Rattle.page_check.specs.All.{anyTo}
 use Rattle.page_check.specs.Rules.{isHeapOnly, leadsWell}
 use Rattle.page_check.proofs.All.{anyTo-hit}
 use Rattle.page_compact.proofs.Packing.{sumTo, packing}
-use Rattle.page_prune.specs.Chains.{Links, walk, chain, startOf, chainOf, member, anyDead, left, lost, chainedIn, lostIn}
+use Rattle.page_laws.specs.Chains.{chain}
+use Rattle.page_prune.specs.Chains.{Links, walk, startOf, chainOf, member, anyDead, left, lost, chainedIn, lostIn}
 use Rattle.page_prune.specs.Pruned.{leadsTo, rootOutcome, heapOnlyOutcome, outcome, slotAfter, prunedSlot, prunedSlots}
 use Rattle.page_prune.specs.declared.outcomes.Outcome.{Outcome}
 use Rattle.page_prune.specs.declared.outcomes.Outcome.the-variants.{Stays, Freed, MadeDead, Redirected}

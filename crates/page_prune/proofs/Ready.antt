@@ -21,7 +21,8 @@ use Rattle.page_laws.specs.Keeps.{Keeps}
 use Rattle.page_laws.proofs.Facts.{lawful-tells}
 use Rattle.page_laws.proofs.Views.{view-at, view-length}
 use Rattle.page_compact.proofs.Sound.{pointer-keeps, keeps-lies}
-use Rattle.page_prune.specs.Chains.{walk, chain, startOf, chainOf, member, anyDead, lost, left, chainedIn, lostIn}
+use Rattle.page_laws.specs.Chains.{chain}
+use Rattle.page_prune.specs.Chains.{walk, startOf, chainOf, member, anyDead, lost, left, chainedIn, lostIn}
 use Rattle.page_prune.specs.Pruned.{Prunable, leadsTo, rootOutcome, heapOnlyOutcome, outcome, outcomeIn}
 use Rattle.page_prune.specs.Marking.{marked}
 use Rattle.page_prune.specs.declared.outcomes.Outcome.{Outcome}

@@ -10,7 +10,8 @@ use native.Mathlib.Omega.{arith}
 use native.Mathlib.Numerals.{add-one}
 use Rattle.std.proofs.shelf.Lists.{getD-set-same, getD-set-other, length-set}
 use Rattle.std.proofs.shelf.Tests.{cases-eq, cases-bool, cond-true, cond-false, eq-eqb, ne-eqb, or-right, or-left}
-use Rattle.page_prune.specs.Chains.{walk, chain, member, anyDead, lost}
+use Rattle.page_laws.specs.Chains.{chain}
+use Rattle.page_prune.specs.Chains.{walk, member, anyDead, lost}
 use Rattle.page_prune.specs.Marking.{marked}
 use Rattle.page_prune.proofs.Walks.{chain-none, none-lost}
 

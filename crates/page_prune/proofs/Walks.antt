@@ -8,7 +8,8 @@ use lib.Dec.{eqb}
 use lib.ListN.{length}
 use native.Mathlib.Omega.{arith}
 use Rattle.std.proofs.shelf.Tests.{or-cases, or-parts, or-left, or-right, eqb-true, eq-eqb, both-ways, cond-true, cond-false, cases-bool}
-use Rattle.page_prune.specs.Chains.{walk, chain, member, anyDead, left, lost}
+use Rattle.page_laws.specs.Chains.{chain}
+use Rattle.page_prune.specs.Chains.{walk, member, anyDead, left, lost}
 
 pub clash : (A : Type 0) → _≡_ {A = ℕ} 0 1 → A
 clash A e = absurd (omega arith)

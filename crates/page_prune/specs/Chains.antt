@@ -11,6 +11,7 @@ use Rattle.page.specs.Slots.{Slot, slotAt}
 use Rattle.page.specs.Slots.Slot.{unused, dead, redirect, holds}
 use Rattle.page_check.specs.All.{anyTo}
 use Rattle.page_check.specs.Rules.{nameOf}
+use Rattle.page_laws.specs.Chains.{chain}
 
 -- nx links each slot of block b to what it names, or to nothing, and each redirect to its target
 pub record Links (b : ℕ) (ss : List Slot) (nx : ℕ → ℕ) : Type 0 where
@@ -21,12 +22,6 @@ pub record Links (b : ℕ) (ss : List Slot) (nx : ℕ → ℕ) : Type 0 where
 abbrev pub walk : (ℕ → ℕ) → ℕ → ℕ → ℕ
 walk nx zero m = m
 walk nx (suc i) m = nx (walk nx i m)
-
--- the versions from m on, f of them at most
-abbrev pub chain : (ℕ → ℕ) → ℕ → ℕ → List ℕ
-chain nx zero m = []
-chain nx (suc f) zero = []
-chain nx (suc f) (suc m) = suc m ∷ chain nx f (nx (suc m))
 
 -- where the chain of the slot m begins: 0 if it is no root, or dead
 abbrev pub startOf : ℕ → Slot → ℕ

@@ -7,7 +7,8 @@ use lib.ListN.{getD, set}
 use Rattle.page.specs.Headers.{countOf}
 use Rattle.page.specs.Slots.{Slot, viewOf}
 use Rattle.page_check.specs.Rules.{isHeapOnly}
-use Rattle.page_prune.specs.Chains.{chain, startOf, chainedIn, lostIn}
+use Rattle.page_laws.specs.Chains.{chain}
+use Rattle.page_prune.specs.Chains.{startOf, chainedIn, lostIn}
 use Rattle.page_prune.specs.Pruned.{nextIn, outcomeIn, rootOutcome, heapOnlyOutcome, outcome}
 use Rattle.page_prune.specs.declared.chains.Marks.{Marks}
 use Rattle.page_prune.specs.declared.outcomes.Outcome.{Outcome}

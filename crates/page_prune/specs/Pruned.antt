@@ -12,7 +12,7 @@ use Rattle.page.specs.Slots.{Slot, slotAt, viewOf}
 use Rattle.page.specs.Slots.Slot.{unused, dead, redirect, holds}
 use Rattle.page.specs.declared.kinds.Kind.{Kind}
 use Rattle.page.specs.declared.line_pointers.Pointer.the-variants.{Unused, Redirect, Dead}
-use Rattle.page_check.specs.All.{anyTo}
+use Rattle.page_check.specs.All.{anyTo, countTo}
 use Rattle.page_check.specs.Rules.{isHeapOnly}
 use Rattle.page_check.specs.Lawful.{lawful?}
 use Rattle.page_compact.specs.Compaction.{compacted}
@@ -85,11 +85,6 @@ losesVersion before after = hasVersion before && not (hasVersion after)
 -- it was not dead and is now
 abbrev pub becomesDead : Slot → Slot → Bool
 becomesDead before after = isDeadSlot after && not (isDeadSlot before)
-
--- of how many of the numbers 1 to n the test f holds
-abbrev pub countTo : (ℕ → Bool) → ℕ → ℕ
-countTo f zero = 0
-countTo f (suc n) = cond (f (n + 1)) 1 0 + countTo f n
 
 abbrev pub removedBy : (ℕ → Outcome) → List Slot → ℕ
 removedBy os ss = countTo (λ n. losesVersion (slotAt ss n) (slotAfter (os n) (slotAt ss n))) (length ss)

@@ -5,7 +5,8 @@ use native.Mathlib.Omega.{arith}
 use Rattle.page.specs.Headers.{countOf}
 use Rattle.page_check.proofs.Slots.{lies-no}
 use Rattle.snapshot.specs.Snapshots.{dataOf}
-use Rattle.heap_read.specs.Links.{linkAt, reached, firstIn}
+use Rattle.page_laws.specs.Chains.{chain}
+use Rattle.heap_read.specs.Links.{linkAt, firstIn}
 use Rattle.heap_read.proofs.Shown.{shown}
 use Rattle.heap_read.proofs.Walks.{sees, walk-hit, walk-on, walk-end, linked}
 use Rattle.heap_read.proofs.links.first_visible.Needs as need
@@ -15,7 +16,7 @@ loop-left-holds g c = λ s.
     let m = g .S·StatusSource .meaning (c .args .source .now) in
     let p = c .args .page .now in
     let e : c .pointer-count-count .result + 1 ≡ suc (countOf p) = omega (arith, c .pointer-count-count .ensures) in
-    (s, refl, ap (λ (n : ℕ). firstIn (sees (m .status) (dataOf (c .args .snapshot .now)) (c .args .block) p) (reached (linkAt (m .status) (c .args .block) p) n (c .args .root))) e)
+    (s, refl, ap (λ (n : ℕ). firstIn (sees (m .status) (dataOf (c .args .snapshot .now)) (c .args .block) p) (chain (linkAt (m .status) (c .args .block) p) n (c .args .root))) e)
 
 pub shows-requires : need.shows-requires
 shows-requires g c κs = lies-no (c .args .page .now) (c .loop-left .at) (c .pre) (omega arith) (omega (arith, c .pointer-count-count .ensures))
@@ -53,7 +54,7 @@ loop-left-again g c = λ s.
     let last : c .loop-left .at ≤ countOf p = omega (arith, c .pointer-count-count .ensures) in (
       f .sound,
       f .kept ∙ e .kept ∙ i .1,
-      ap (λ (t : ℕ). firstIn see (reached next (c .loop-left .left - 1) t)) (linked m _ (c .args .block) p (c .loop-left .at) _ (e .kept ∙ i .1) (omega arith) last (f .answer))
+      ap (λ (t : ℕ). firstIn see (chain next (c .loop-left .left - 1) t)) (linked m _ (c .args .block) p (c .loop-left .at) _ (e .kept ∙ i .1) (omega arith) last (f .answer))
           ∙ sym (walk-on see next (c .loop-left .left) (c .loop-left .at) (omega arith) (omega arith)
           (shown m _ (dataOf (c .args .snapshot .now)) p (c .loop-left .at) _ (i .1) (omega arith) last (e .answer)))
           ∙ i .2,

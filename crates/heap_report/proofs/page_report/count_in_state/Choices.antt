@@ -1,6 +1,7 @@
 use mathlib.Core.Path.{_≡_}
 use Prim.Native.Nat.{_≤_}
-use Rattle.heap_report.specs.Images.{countTo, inState}
+use Rattle.page_check.specs.All.{countTo}
+use Rattle.heap_report.specs.Images.{inState}
 use Rattle.heap_report.proofs.page_report.count_in_state.Given as given
 
 -- what is counted so far

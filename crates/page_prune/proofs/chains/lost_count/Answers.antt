@@ -3,7 +3,7 @@ use mathlib.Core.Bool.{Bool}
 use mathlib.Core.List.{List}
 use Prim.Native.Nat.{ℕ, _+_, _-_}
 use native.Mathlib.Omega.{arith}
-use Rattle.page_prune.specs.Chains.{chain}
+use Rattle.page_laws.specs.Chains.{chain}
 use Rattle.page_prune.specs.Pruned.{nextIn, deadIn}
 use Rattle.page_prune.proofs.Walks.{chain-none}
 use Rattle.page_prune.proofs.Steps.{lostAfter, chain-first, chain-step, chain-last, lost-begins, lost-more}

@@ -1,7 +1,8 @@
 use mathlib.Core.Path.{_≡_}
 use Prim.Native.Nat.{_-_, _≤_}
 use lib.ListN.{length}
-use Rattle.page_prune.specs.Chains.{chain, lost}
+use Rattle.page_laws.specs.Chains.{chain}
+use Rattle.page_prune.specs.Chains.{lost}
 use Rattle.page_prune.specs.Pruned.{nextIn, deadIn}
 use Rattle.page_prune.proofs.Steps.{lostAfter}
 use Rattle.page_prune.proofs.chains.lost_count.Given as given

@@ -1,6 +1,6 @@
 use mathlib.Core.Path.{_≡_, sym, ap, _∙_}
 use Prim.Native.Nat.{ℕ}
-use Rattle.page_prune.specs.Chains.{chain}
+use Rattle.page_laws.specs.Chains.{chain}
 use Rattle.page_prune.specs.Pruned.{nextIn, deadIn}
 use Rattle.page_prune.specs.Marking.{marked}
 use Rattle.page_prune.proofs.Walks.{cut}

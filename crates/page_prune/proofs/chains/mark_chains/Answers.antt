@@ -10,7 +10,8 @@ use Rattle.page.specs.LinePointers.{pointerAt}
 use Rattle.page.specs.Slots.{slotOf, viewOf}
 use Rattle.page_check.specs.All.{anyTo}
 use Rattle.page_laws.proofs.Views.{view-length}
-use Rattle.page_prune.specs.Chains.{chain, chainOf, startOf, member, lost}
+use Rattle.page_laws.specs.Chains.{chain}
+use Rattle.page_prune.specs.Chains.{chainOf, startOf, member, lost}
 use Rattle.page_prune.specs.Pruned.{nextIn, deadIn}
 use Rattle.page_prune.proofs.Walks.{cut}
 use Rattle.page_prune.proofs.Steps.{marked-long}

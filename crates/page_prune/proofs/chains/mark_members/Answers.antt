@@ -1,7 +1,7 @@
 use mathlib.Core.Path.{_≡_, sym, ap, _∙_}
 use mathlib.Core.List.{List}
 use Prim.Native.Nat.{ℕ, _-_}
-use Rattle.page_prune.specs.Chains.{chain}
+use Rattle.page_laws.specs.Chains.{chain}
 use Rattle.page_prune.specs.Pruned.{nextIn}
 use Rattle.page_prune.specs.Marking.{marked}
 use Rattle.page_prune.proofs.Walks.{chain-none}

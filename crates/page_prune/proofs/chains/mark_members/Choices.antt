@@ -1,6 +1,6 @@
 use mathlib.Core.Path.{_≡_}
 use Prim.Native.Nat.{_-_, _≤_}
-use Rattle.page_prune.specs.Chains.{chain}
+use Rattle.page_laws.specs.Chains.{chain}
 use Rattle.page_prune.specs.Pruned.{nextIn}
 use Rattle.page_prune.specs.Marking.{marked}
 use Rattle.page_prune.proofs.chains.mark_members.Given as given

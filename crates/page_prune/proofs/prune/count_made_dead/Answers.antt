@@ -4,7 +4,8 @@ use lib.ListN.{length}
 use native.Mathlib.Omega.{arith}
 use Rattle.page.specs.Slots.{Slot, slotAt, viewOf}
 use Rattle.page_laws.proofs.Views.{view-length}
-use Rattle.page_prune.specs.Pruned.{countTo, becomesDead, slotAfter, outcomeIn}
+use Rattle.page_check.specs.All.{countTo}
+use Rattle.page_prune.specs.Pruned.{becomesDead, slotAfter, outcomeIn}
 use Rattle.page_prune.proofs.Counts.{slot-at, count-yes, count-no}
 use Rattle.page_prune.proofs.prune.count_made_dead.Needs as need
 use Rattle.page_prune.proofs.prune.count_made_dead.Needs.{then-makes-dead, else-makes-dead}

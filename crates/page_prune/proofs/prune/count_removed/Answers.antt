@@ -4,7 +4,8 @@ use lib.ListN.{length}
 use native.Mathlib.Omega.{arith}
 use Rattle.page.specs.Slots.{Slot, slotAt, viewOf}
 use Rattle.page_laws.proofs.Views.{view-length}
-use Rattle.page_prune.specs.Pruned.{countTo, losesVersion, slotAfter, outcomeIn}
+use Rattle.page_check.specs.All.{countTo}
+use Rattle.page_prune.specs.Pruned.{losesVersion, slotAfter, outcomeIn}
 use Rattle.page_prune.proofs.Counts.{slot-at, count-yes, count-no}
 use Rattle.page_prune.proofs.prune.count_removed.Needs as need
 use Rattle.page_prune.proofs.prune.count_removed.Needs.{then-removes-version, else-removes-version}
