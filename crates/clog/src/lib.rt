@@ -7,5 +7,7 @@
 // the bytes that its contract names and no others, and opening a number clears what the lap before left in its slot.
 // Left to others: what a caller does with the memory once the pages are gone.
 
+#![tactic(auto)]
+
 mod codes;
 pub mod pages;

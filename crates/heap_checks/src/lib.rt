@@ -3,6 +3,9 @@
 // Proved here: whether all unmarked creators and removers of a version or of a page lie in a source's window, so that it
 // can tell their fate; and whether some version of some page still needs a number before a cutoff. Both are about bytes
 // and numbers alone: no source is asked.
+
+#![tactic(auto)]
+
 ghost use Rattle.std.specs.Prelude.{◌≡◌, []};
 ghost use Rattle.page.specs.LinePointers.{pointer_at};
 ghost use Rattle.page.specs.Slots.{decoded, slot_of};

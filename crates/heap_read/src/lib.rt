@@ -3,6 +3,9 @@
 // Proved here, once for every status source: the fate of a creator and of a remover, what a snapshot sees, links and
 // chains, the lowest visible version above an address over all pages, and the first visible version of a chain. Hint bits
 // are asked first, else the source. Whether the pages are lawful and the numbers known is for the callers to check.
+
+#![tactic(auto)]
+
 pub mod fates;
 pub mod found;
 pub mod links;

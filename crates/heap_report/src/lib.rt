@@ -2,6 +2,9 @@
 //
 // Which sizes an image may have, and how many line pointers of each state a page has, are proved; the text itself is
 // compared with text that was made from the rules (crates/inspect).
+
+#![tactic(auto)]
+
 mod image;
 mod names;
 mod page_report;

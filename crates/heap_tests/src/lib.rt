@@ -2,6 +2,9 @@
 // docs/upkeep.md).
 //
 // Proved here: the calls of the tests make sure by the page check that a page is lawful before they work on it.
+
+#![tactic(auto)]
+
 pub mod lawful;
 #[cfg(test)]
 mod tests;

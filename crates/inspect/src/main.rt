@@ -1,6 +1,9 @@
 // inspect: reads a heap image, prints what is on each page, and says whether it is lawful.
 //
 // The judgement is that of the crate `page_check`, the text that of `heap_report`; here files are read and lines written.
+
+#![tactic(auto)]
+
 use anyhow::anyhow;
 use heap_report::{PageReport, count_in_state, pages_in};
 use page::{PAGE_SIZE, Page, State, standard_kinds};

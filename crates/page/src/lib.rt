@@ -3,6 +3,9 @@
 // Every function here reads a page of any content: none has a `requires`, none reads outside the page, and each contract
 // says by equality with a definition of specs/ what is read. Nothing here judges a page: whether it is lawful is the
 // matter of the crate `page_check`.
+
+#![tactic(auto)]
+
 mod bytes;
 mod headers;
 mod kinds;

@@ -1,4 +1,7 @@
 // For tests: pages built byte by byte from the page format, without the code under test.
+
+#![tactic(auto)]
+
 use page::{PAGE_SIZE, Page};
 
 pub fn put_byte(page: &mut Page, at: usize, byte: u8) {

@@ -3,6 +3,9 @@
 // For every content of a page, every block number and every table of kinds: `is_lawful` answers exactly the definition of
 // a lawful page, and `first_broken` names the first rule that fails and where, or none exactly where the page is lawful.
 // The time is linear in the page's size. The layout itself is the matter of the crate `page`.
+
+#![tactic(auto)]
+
 mod check;
 mod naming;
 mod overlap;

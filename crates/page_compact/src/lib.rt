@@ -4,6 +4,9 @@
 // the page and with no allocation. The law on `compaction_keeps` says what that comes to: no decoded slot changes, the page
 // stays lawful, upper is told by the slots alone, and the room and all padding are zero. When a page is to be compacted is
 // the matter of pruning, in the crate `page_prune`.
+
+#![tactic(auto)]
+
 mod compaction;
 
 ghost use Rattle.page_compact.specs.Laws.{CompactionKeeps};

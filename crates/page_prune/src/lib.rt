@@ -9,6 +9,9 @@
 // the page and with no allocation; every walk is bounded, also where versions off every root stand in a circle. The laws say
 // what that comes to: the decoded slots afterwards, that a lawful page stays lawful, that a page of which no pointer changed
 // stays to the byte, that no chain has a dead member left, and that no root becomes unused.
+
+#![tactic(auto)]
+
 mod chains;
 mod outcomes;
 mod prune;

@@ -2,6 +2,9 @@
 //
 // All answers are by equality with the definitions of specs/Room.antt, for pages of any content and any reserve of bytes
 // that must stay free. Nothing is written here: the crate `page_write` puts the row.
+
+#![tactic(auto)]
+
 mod blocks;
 mod room;
 

@@ -5,6 +5,9 @@
 // matter of the crate `page_room`. What writing means for the slots of a page, and that a lawful page stays lawful, is proved
 // in the crate `page_write_laws`. Who may write and in which order a call asks its questions is left to the calls; hint and
 // freeze rewrite headers by `VersionFields` and `rewrite_header` too.
+
+#![tactic(auto)]
+
 mod change;
 mod empty;
 mod fields;

@@ -3,6 +3,9 @@
 // Each function carries one law, over any table of kinds and every block; specs/Laws.antt and specs/Edges.antt have the
 // statements. They speak of the definitions that the contracts of the crate `page_write` end in. Hint and freeze use the
 // laws of changing one version or all; what they write is left to them.
+
+#![tactic(auto)]
+
 ghost use Rattle.page_write_laws.specs.Edges.{EmptyLaw, EdgeLaw, Edges};
 ghost use Rattle.page_write_laws.specs.Laws.{FreeLaw, PutLaw, ChangeLaw, ChangeAllLaw, SameLaw, MarkLaw};
 

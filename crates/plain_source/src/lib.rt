@@ -7,4 +7,6 @@
 //
 // Proved here: `PlainSource` keeps the contracts and the laws of xid::source.
 
+#![tactic(auto)]
+
 pub mod plain;

@@ -3,6 +3,9 @@
 // Each check that a call makes has a number; the first that fails is the call's refusal. The numbers stand in one
 // definition, `refusal_number`, and every promise about a refusal is made through it. Which call makes which checks is the
 // matter of the crates above.
+
+#![tactic(auto)]
+
 ghost use Rattle.std.specs.Prelude.{◌≡◌};
 ghost use Rattle.refusal.specs.Numbers.{refusal_number, NumbersDiffer};
 

@@ -8,6 +8,8 @@
 // sound source; and that the horizon is the least of the numbers it is taken from (`laws`).
 // Left to others: that the list has exactly the open numbers of the source, which the calls above keep.
 
+#![tactic(auto)]
+
 pub mod active;
 mod filters;
 pub mod horizons;

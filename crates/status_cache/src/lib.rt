@@ -7,5 +7,7 @@
 // never tells another status than that source, also after a forget, and after the numbers have come round.
 // Left to others: the source below. How full the cache is, no contract says.
 
+#![tactic(auto)]
+
 pub mod cache;
 mod slots;

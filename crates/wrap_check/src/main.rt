@@ -4,6 +4,8 @@
 // compared with `stdout`, which was written by hand from the rules. Also here, and proved: callers of the sources whose
 // contracts have no premise (`commits`), so that the soundness which the contracts of the sources start from is met.
 
+#![tactic(auto)]
+
 mod commits;
 mod report;
 

@@ -9,6 +9,8 @@
 // codes of the statuses (`statuses`), what forget asks (`lookup`), and that every source keeps the laws (`laws`).
 // Left to others: each implementation of `StatusSource` shows that it keeps the contracts of the trait.
 
+#![tactic(auto)]
+
 pub mod laws;
 pub mod lookup;
 pub mod numbers;
