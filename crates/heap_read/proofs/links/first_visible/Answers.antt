@@ -12,16 +12,16 @@ pub loop-left-init : goal.loop-left-init
 loop-left-init g c = λ s.
     let m = g.S.StatusSource.meaning c.args.source.now in
     let p = c.args.page.now in
-    let e : c.pointer-count-count.result + 1 ≡ suc (count_of p) = omega (arith, c.pointer-count-count.ensures) in
+    let e : c.pointer_count-count.result + 1 ≡ suc (count_of p) = omega (arith, c.pointer_count-count.ensures) in
     (s, refl, ap (λ (n : ℕ). first_in (sees m.status (data_of c.args.snapshot.now) c.args.block p) (chain (link_at m.status c.args.block p) n c.args.root)) e)
 
 pub shows-requires : goal.shows-requires
-shows-requires g c = lies_no c.args.page.now c.loop-left.at c.requires (omega arith) (omega (arith, c.pointer-count-count.ensures))
+shows-requires g c = lies_no c.args.page.now c.loop-left.at c.requires (omega arith) (omega (arith, c.pointer_count-count.ensures))
 
-pub link-of-at-requires : goal.link-of-at-requires
-link-of-at-requires g c = record {
+pub link_of-at-requires : goal.link_of-at-requires
+link_of-at-requires g c = record {
   lie = c.requires;
-  here = lies_no c.args.page.now c.loop-left.at c.requires (omega arith) (omega (arith, c.pointer-count-count.ensures));
+  here = lies_no c.args.page.now c.loop-left.at c.requires (omega arith) (omega (arith, c.pointer_count-count.ensures));
 }
 
 pub returns-then-shows : goal.returns-then-shows
@@ -30,7 +30,7 @@ returns-then-shows g c = λ s.
     let p = c.args.page.now in
     let i = c.loop-left.invariant s in
     let e = c.if-shows.ensures i.0 in
-    let last : c.loop-left.at ≤ count_of p = omega (arith, c.pointer-count-count.ensures) in
+    let last : c.loop-left.at ≤ count_of p = omega (arith, c.pointer_count-count.ensures) in
     record {
       sound = e.sound;
       kept = e.kept ∙ i.1;
@@ -47,8 +47,8 @@ loop-left-preserved g c = λ s.
     let next = link_at m.status c.args.block p in
     let i = c.loop-left.invariant s in
     let e = c.if-shows.ensures i.0 in
-    let f = c.link-of-at.ensures.told e.sound in
-    let last : c.loop-left.at ≤ count_of p = omega (arith, c.pointer-count-count.ensures) in (
+    let f = c.link_of-at.ensures.told e.sound in
+    let last : c.loop-left.at ≤ count_of p = omega (arith, c.pointer_count-count.ensures) in (
       f.sound,
       f.kept ∙ e.kept ∙ i.1,
       ap (λ (t : ℕ). first_in see (chain next (c.loop-left.left - 1) t)) (linked m _ c.args.block p c.loop-left.at _ (e.kept ∙ i.1) (omega arith) last f.answer)
@@ -84,5 +84,5 @@ returns-else-at-count g c = λ s.
     record {
       sound = i.0;
       kept = i.1;
-      answer = sym (walk_end m.status (data_of c.args.snapshot.now) c.args.block c.args.page.now c.loop-left.left c.loop-left.at (inr (inr (omega (arith, c.pointer-count-count.ensures))))) ∙ i.2;
+      answer = sym (walk_end m.status (data_of c.args.snapshot.now) c.args.block c.args.page.now c.loop-left.left c.loop-left.at (inr (inr (omega (arith, c.pointer_count-count.ensures))))) ∙ i.2;
     }

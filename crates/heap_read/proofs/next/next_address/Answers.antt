@@ -12,8 +12,8 @@ loop-block-init g c =
       λ s. (s, refl, skip_start (in_block m (data_of c.args.snapshot.now) c.args.pages.now c.args.after) c.args.after.block c.args.after.block (omega arith)),
     )
 
-pub next-on-page-requires : goal.next-on-page-requires
-next-on-page-requires g c = c.requires.lie c.loop-block.block c.loop-block-test.true
+pub next_on_page-requires : goal.next_on_page-requires
+next_on_page-requires g c = c.requires.lie c.loop-block.block c.loop-block-test.true
 
 pub returns-in-Some : goal.returns-in-Some
 returns-in-Some g c = λ s.

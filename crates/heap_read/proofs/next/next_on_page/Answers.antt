@@ -14,7 +14,7 @@ loop-i-init g c = λ s.
     (s, refl, above_start (λ n. visible_slot m.status (data_of c.args.snapshot.now) (slot_no c.args.page.now n)) c.args.after c.args.after (omega arith))
 
 pub shows-requires : goal.shows-requires
-shows-requires g c = c.requires c.loop-i.i (let same : c.pointer-count-count.result ≡ count_of c.args.page.now = c.pointer-count-count.ensures ∙ ap pointer_count c.read.ensures in omega arith)
+shows-requires g c = c.requires c.loop-i.i (let same : c.pointer_count-count.result ≡ count_of c.args.page.now = c.pointer_count-count.ensures ∙ ap pointer_count c.read.ensures in omega arith)
 
 pub returns-then-shows : goal.returns-then-shows
 returns-then-shows g c = λ s.
@@ -22,7 +22,7 @@ returns-then-shows g c = λ s.
     let p = c.args.page.now in
     let i = c.loop-i.invariant s in
     let e = c.if-shows.ensures i.0 in
-    let same : c.pointer-count-count.result ≡ count_of p = c.pointer-count-count.ensures ∙ ap pointer_count c.read.ensures in
+    let same : c.pointer_count-count.result ≡ count_of p = c.pointer_count-count.ensures ∙ ap pointer_count c.read.ensures in
     let few : c.loop-i.i < count_of p = omega arith in
     record {
       sound = e.sound;
@@ -37,7 +37,7 @@ loop-i-preserved g c = λ s.
     let p = c.args.page.now in
     let i = c.loop-i.invariant s in
     let e = c.if-shows.ensures i.0 in
-    let same : c.pointer-count-count.result ≡ count_of p = c.pointer-count-count.ensures ∙ ap pointer_count c.read.ensures in
+    let same : c.pointer_count-count.result ≡ count_of p = c.pointer_count-count.ensures ∙ ap pointer_count c.read.ensures in
     let few : c.loop-i.i < count_of p = omega arith in (
       e.sound,
       e.kept ∙ i.1,
@@ -50,7 +50,7 @@ returns g c = λ s.
     let m = g.S.StatusSource.meaning c.args.source.now in
     let p = c.args.page.now in
     let i = c.loop-i.invariant s in
-    let same : c.pointer-count-count.result ≡ count_of p = c.pointer-count-count.ensures ∙ ap pointer_count c.read.ensures in
+    let same : c.pointer_count-count.result ≡ count_of p = c.pointer_count-count.ensures ∙ ap pointer_count c.read.ensures in
     let past : count_of p ≤ c.loop-i.i = omega arith in
     record {
       sound = i.0;

@@ -12,8 +12,8 @@ returns-then-address-pages c =
     sym (ap (λ (p : List ℕ). found_in c.args.address (slot_no p c.args.address.pointer)) (get_or_past c.args.pages.now c.args.address.block [] c.if-address-pages.true)
     ∙ ap (found_in c.args.address) (slot_no_nowhere c.args.address.pointer))
 
-pub found-on-requires : goal.found-on-requires
-found-on-requires c =
+pub found_on-requires : goal.found_on-requires
+found_on-requires c =
     let p = get_or c.args.pages.now c.args.address.block [] in
-    let last : c.args.address.pointer ≤ count_of p = omega (arith, c.pointer-count.ensures) in
+    let last : c.args.address.pointer ≤ count_of p = omega (arith, c.pointer_count.ensures) in
     lies_no p c.args.address.pointer (c.requires c.args.address.block (omega arith)) (omega arith) last

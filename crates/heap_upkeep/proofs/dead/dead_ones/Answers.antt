@@ -16,15 +16,15 @@ pub loop-i-preserved : goal.loop-i-preserved
 loop-i-preserved g c =
     let m = g.S.StatusSource.meaning c.args.source.now in
     let p = c.args.page.now in
-    let last : c.loop-i.i + 1 ≤ count_of p = omega (arith, c.pointer-count-count.ensures) in (
-      length-set c.loop-i.dead (c.loop-i.i + 1) c.is-slot-dead.result ∙ c.loop-i.invariant.0,
+    let last : c.loop-i.i + 1 ≤ count_of p = omega (arith, c.pointer_count-count.ensures) in (
+      length-set c.loop-i.dead (c.loop-i.i + 1) c.is_slot_dead.result ∙ c.loop-i.invariant.0,
       λ s.
           let i = c.loop-i.invariant.1 s in
-          let e = c.is-slot-dead.ensures i.0 in (
+          let e = c.is_slot_dead.ensures i.0 in (
             e.sound,
             e.kept ∙ i.1,
-            filled_more (λ n. dead_slot m.status c.args.horizon (slot_no p n)) false c.loop-i.i c.loop-i.dead c.is-slot-dead.result c.loop-i.invariant.0 (omega (arith, c.requires.few)) i.2
-                (slot_told (λ (x : Meaning) (t : Slot). dead_slot x.status c.args.horizon t) m _ p (c.loop-i.i + 1) c.is-slot-dead.result i.1 (omega arith) last e.answer),
+            filled_more (λ n. dead_slot m.status c.args.horizon (slot_no p n)) false c.loop-i.i c.loop-i.dead c.is_slot_dead.result c.loop-i.invariant.0 (omega (arith, c.requires.few)) i.2
+                (slot_told (λ (x : Meaning) (t : Slot). dead_slot x.status c.args.horizon t) m _ p (c.loop-i.i + 1) c.is_slot_dead.result i.1 (omega arith) last e.answer),
           ),
     )
 
@@ -33,5 +33,5 @@ returns g c = λ s.
     let m = g.S.StatusSource.meaning c.args.source.now in
     let p = c.args.page.now in
     let i = c.loop-i.invariant.1 s in
-    let same : c.loop-i.i ≡ count_of p = omega (arith, c.pointer-count-count.ensures) in
+    let same : c.loop-i.i ≡ count_of p = omega (arith, c.pointer_count-count.ensures) in
     record { sound = i.0; kept = i.1; answer = filled_page (dead_slot m.status c.args.horizon) false p c.loop-i.i c.loop-i.dead refl same i.2 }

@@ -17,17 +17,17 @@ pub loop-i-preserved : goal.loop-i-preserved
 loop-i-preserved g c =
     let m = g.S.StatusSource.meaning c.args.source.now in
     let p = c.args.page.now in
-    let last : c.loop-i.i + 1 ≤ count_of p = omega (arith, c.pointer-count-count.ensures) in (
-      length-set c.loop-i.links (c.loop-i.i + 1) c.link-of.result ∙ c.loop-i.invariant.0,
-      along_more c.args.block p c.loop-i.i c.loop-i.links c.link-of.result c.loop-i.invariant.0 (omega (arith, c.requires.few)) c.loop-i.invariant.1
-          (subst (λ (t : Slot). LeadsAlong c.args.block (slot_no p) t c.link-of.result) (sym (slot_no_in p (c.loop-i.i + 1) (omega arith) last)) c.link-of.ensures.along),
+    let last : c.loop-i.i + 1 ≤ count_of p = omega (arith, c.pointer_count-count.ensures) in (
+      length-set c.loop-i.links (c.loop-i.i + 1) c.link_of.result ∙ c.loop-i.invariant.0,
+      along_more c.args.block p c.loop-i.i c.loop-i.links c.link_of.result c.loop-i.invariant.0 (omega (arith, c.requires.few)) c.loop-i.invariant.1
+          (subst (λ (t : Slot). LeadsAlong c.args.block (slot_no p) t c.link_of.result) (sym (slot_no_in p (c.loop-i.i + 1) (omega arith) last)) c.link_of.ensures.along),
       λ s.
           let i = c.loop-i.invariant.2 s in
-          let e = c.link-of.ensures.told i.0 in (
+          let e = c.link_of.ensures.told i.0 in (
             e.sound,
             e.kept ∙ i.1,
-            filled_more (link_at m.status c.args.block p) 0 c.loop-i.i c.loop-i.links c.link-of.result c.loop-i.invariant.0 (omega (arith, c.requires.few)) i.2
-                (slot_told (λ (x : Meaning) (t : Slot). link_from x.status c.args.block (slot_no p) t) m _ p (c.loop-i.i + 1) c.link-of.result i.1 (omega arith) last e.answer),
+            filled_more (link_at m.status c.args.block p) 0 c.loop-i.i c.loop-i.links c.link_of.result c.loop-i.invariant.0 (omega (arith, c.requires.few)) i.2
+                (slot_told (λ (x : Meaning) (t : Slot). link_from x.status c.args.block (slot_no p) t) m _ p (c.loop-i.i + 1) c.link_of.result i.1 (omega arith) last e.answer),
           ),
     )
 
@@ -35,7 +35,7 @@ pub returns : goal.returns
 returns g c =
     let m = g.S.StatusSource.meaning c.args.source.now in
     let p = c.args.page.now in
-    let same : c.loop-i.i ≡ count_of p = omega (arith, c.pointer-count-count.ensures) in
+    let same : c.loop-i.i ≡ count_of p = omega (arith, c.pointer_count-count.ensures) in
     record {
       along = along_all c.args.block p c.loop-i.i c.loop-i.links same c.loop-i.invariant.1;
       told = λ s.

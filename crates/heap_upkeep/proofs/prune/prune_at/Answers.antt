@@ -7,24 +7,24 @@ use Rattle.page_laws.proofs.Own.{keeps_lie}
 use Rattle.heap_upkeep.proofs.PruneLinks.{along_links, prunes}
 use Rattle.heap_upkeep.proofs.prune.prune_at.Goals as goal
 
-pub links-of-next-requires : goal.links-of-next-requires
-links-of-next-requires g c =
+pub links_of-next-requires : goal.links_of-next-requires
+links_of-next-requires g c =
     let k = lawful_tells c.requires.kinds c.args.block c.args.page.now c.requires.lawful in
     record { few = k.header.pointer_limit; lie = keeps_lie c.requires.kinds c.args.block c.args.page.now k }
 
-pub dead-ones-dead-requires : goal.dead-ones-dead-requires
-dead-ones-dead-requires g c =
+pub dead_ones-dead-requires : goal.dead_ones-dead-requires
+dead_ones-dead-requires g c =
     let k = lawful_tells c.requires.kinds c.args.block c.args.page.now c.requires.lawful in
     record { few = k.header.pointer_limit; lie = keeps_lie c.requires.kinds c.args.block c.args.page.now k }
 
-pub prune-page-requires : goal.prune-page-requires
-prune-page-requires g c =
+pub prune_page-requires : goal.prune_page-requires
+prune_page-requires g c =
     let k = lawful_tells c.requires.kinds c.args.block c.args.page.now c.requires.lawful in
     record {
       kinds = c.requires.kinds;
       block = c.args.block;
       lawful = c.requires.lawful;
-      links = along_links c.requires.kinds c.args.block c.args.page.now k c.links-of-next.result c.links-of-next.ensures.along;
+      links = along_links c.requires.kinds c.args.block c.args.page.now k c.links_of-next.result c.links_of-next.ensures.along;
     }
 
 pub returns : goal.returns
@@ -33,21 +33,21 @@ returns g c =
     let p = c.args.page.now in
     let b = c.args.block in
     let k = lawful_tells c.requires.kinds b p c.requires.lawful in
-    let links = along_links c.requires.kinds b p k c.links-of-next.result c.links-of-next.ensures.along in
-    let after : is_lawful c.requires.kinds b c.prune-page.new.page ≡ true =
-    subst (λ (q : List ℕ). is_lawful c.requires.kinds b q ≡ true) (sym c.prune-page.ensures.page)
-    (still-lawful c.requires.kinds b (next_in c.links-of-next.result) (dead_in c.dead-ones-dead.result) p c.told-page c.requires.lawful links).lawful in
+    let links = along_links c.requires.kinds b p k c.links_of-next.result c.links_of-next.ensures.along in
+    let after : is_lawful c.requires.kinds b c.prune_page.new.page ≡ true =
+    subst (λ (q : List ℕ). is_lawful c.requires.kinds b q ≡ true) (sym c.prune_page.ensures.page)
+    (still-lawful c.requires.kinds b (next_in c.links_of-next.result) (dead_in c.dead_ones-dead.result) p c.told-page c.requires.lawful links).lawful in
     record {
       lawful = record { kinds = c.requires.kinds; lawful = after };
-      few = (lawful_tells c.requires.kinds b c.prune-page.new.page after).header.pointer_limit;
+      few = (lawful_tells c.requires.kinds b c.prune_page.new.page after).header.pointer_limit;
       told = λ s.
-          let e = c.links-of-next.ensures.told s in
-          let f = c.dead-ones-dead.ensures e.sound in
+          let e = c.links_of-next.ensures.told s in
+          let f = c.dead_ones-dead.ensures e.sound in
           record {
             sound = f.sound;
             kept = f.kept ∙ e.kept;
-            answer = prunes (m c.args.source.now) (m c.links-of-next.new.source) c.args.horizon b p c.prune-page.new.page
-                c.links-of-next.result c.dead-ones-dead.result c.prune-page.result.removed c.prune-page.result.made_dead e.kept e.answer f.answer
-                c.prune-page.ensures.page c.prune-page.ensures.removed c.prune-page.ensures.dead;
+            answer = prunes (m c.args.source.now) (m c.links_of-next.new.source) c.args.horizon b p c.prune_page.new.page
+                c.links_of-next.result c.dead_ones-dead.result c.prune_page.result.removed c.prune_page.result.made_dead e.kept e.answer f.answer
+                c.prune_page.ensures.page c.prune_page.ensures.removed c.prune_page.ensures.dead;
           };
     }

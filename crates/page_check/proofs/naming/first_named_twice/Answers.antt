@@ -19,23 +19,23 @@ name_is p b i r l e = e ∙ ap (name_of b (slot_no p)) (sym (slot_no_in p (i + 1
 pub loop-i-init : goal.loop-i-init
 loop-i-init c = (refl, λ x l. get_or-replicate 292 x false false l)
 
-pub take-name-requires : goal.take-name-requires
-take-name-requires c =
+pub take_name-requires : goal.take_name-requires
+take_name-requires c =
     let small = name_small c.args.block c.args.page.now (slot_of c.args.page.now (pointer_at c.args.page.now (c.loop-i.i + 1))) in
-    omega (arith, c.name-of.ensures)
+    omega (arith, c.name_of.ensures)
 
-pub returns-then-not-take-name : goal.returns-then-not-take-name
-returns-then-not-take-name c =
-    let n = name_is c.args.page.now c.args.block c.loop-i.i c.name-of.result (omega arith) c.name-of.ensures in
+pub returns-then-not-take_name : goal.returns-then-not-take_name
+returns-then-not-take_name c =
+    let n = name_is c.args.page.now c.args.block c.loop-i.i c.name_of.result (omega arith) c.name_of.ensures in
     names_some c.args.block c.args.page.now (omega arith) c.loop-i.i c.loop-i.named c.loop-i.invariant.1 (omega arith) c.loop-i.invariant.0
-    (c.if-not-take-name.ensures.answer ∙ ap (name_free c.loop-i.named) n)
+    (c.if-not-take_name.ensures.answer ∙ ap (name_free c.loop-i.named) n)
 
 pub loop-i-preserved : goal.loop-i-preserved
 loop-i-preserved c =
-    let n = name_is c.args.page.now c.args.block c.loop-i.i c.name-of.result (omega arith) c.name-of.ensures in
-    names_none c.args.block c.args.page.now (omega arith) c.loop-i.i c.loop-i.named c.loop-i.invariant.1 c.take-name.new.named (search rules) c.loop-i.invariant.0
-    (c.if-not-take-name.ensures.answer ∙ ap (name_free c.loop-i.named) n)
-    (c.take-name.ensures.named ∙ ap (name_taken c.loop-i.named) n)
+    let n = name_is c.args.page.now c.args.block c.loop-i.i c.name_of.result (omega arith) c.name_of.ensures in
+    names_none c.args.block c.args.page.now (omega arith) c.loop-i.i c.loop-i.named c.loop-i.invariant.1 c.take_name.new.named (search rules) c.loop-i.invariant.0
+    (c.if-not-take_name.ensures.answer ∙ ap (name_free c.loop-i.named) n)
+    (c.take_name.ensures.named ∙ ap (name_taken c.loop-i.named) n)
 
 pub returns : goal.returns
 returns c = first_to_end (page_break c.args.block c.args.page.now NamedOnce) c.loop-i.i (count_of c.args.page.now) c.loop-i.invariant.0 (omega arith)

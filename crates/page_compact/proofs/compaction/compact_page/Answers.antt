@@ -14,12 +14,12 @@ packs p n h e = subst (λ (m : ℕ). Packs p m) (sym e) (sound_packs h.kinds p (
 few : (p : List ℕ) → LawfulPage p → count_of p ≤ 291
 few p h = (lawful_tells h.kinds h.block p h.lawful).header.pointer_limit
 
-pub lay-all-upper-requires : goal.lay-all-upper-requires
-lay-all-upper-requires c =
-    let e : c.pointer-count.result ≡ count_of c.args.page.now = c.pointer-count.ensures ∙ ap pointer_count c.read-header.ensures in
+pub lay_all-upper-requires : goal.lay_all-upper-requires
+lay_all-upper-requires c =
+    let e : c.pointer_count.result ≡ count_of c.args.page.now = c.pointer_count.ensures ∙ ap pointer_count c.read-header.ensures in
     record {
       few = omega (arith, few c.args.page.now c.requires);
-      packs = packs c.args.page.now c.pointer-count.result c.requires e;
-      cleared = c.clear-from.ensures
+      packs = packs c.args.page.now c.pointer_count.result c.requires e;
+      cleared = c.clear_from.ensures
           ∙ ap (λ (h : PageHeader). put_mid h.lower (8192 - h.lower) c.args.page.now (replicate (8192 - h.lower) 0)) c.read-header.ensures;
     }

@@ -16,7 +16,7 @@ pub loop-i-preserved : goal.loop-i-preserved
 loop-i-preserved c =
     let nx = next_in c.args.next.now in let gone = dead_in c.args.dead.now in (
       c.requires.within c.loop-i.at,
-      sym (lost_more gone c.loop-i.at (chain nx (c.args.limit - (c.loop-i.i + 1)) (nx c.loop-i.at)) c.loop-i.i c.loop-i.lost c.lost-with-lost.result c.lost-with-lost.ensures)
+      sym (lost_more gone c.loop-i.at (chain nx (c.args.limit - (c.loop-i.i + 1)) (nx c.loop-i.at)) c.loop-i.i c.loop-i.lost c.lost_with-lost.result c.lost_with-lost.ensures)
           ∙ sym (ap (λ (ms : List ℕ). lost_after gone c.loop-i.i c.loop-i.lost ms) (chain_step nx c.args.limit c.loop-i.i c.loop-i.at c.loop-i-test.true c.if-at-eq0.false))
           ∙ c.loop-i.invariant.1,
     )

@@ -9,7 +9,7 @@ pub returns : goal.returns
 returns c =
     let nx = next_in c.args.next.now in
     record {
-      chained = c.mark-members.ensures;
-      lost = c.mark-members-2.ensures
-          ∙ ap (marked c.args.marks.now.lost) (ap (λ (k : ℕ). chain nx k c.args.start) c.lost-count.ensures ∙ sym (cut nx (dead_in c.args.dead.now) c.args.limit c.args.start).front);
+      chained = c.mark_members.ensures;
+      lost = c.mark_members-2.ensures
+          ∙ ap (marked c.args.marks.now.lost) (ap (λ (k : ℕ). chain nx k c.args.start) c.lost_count.ensures ∙ sym (cut nx (dead_in c.args.dead.now) c.args.limit c.args.start).front);
     }

@@ -4,5 +4,5 @@ use Rattle.page_prune.proofs.outcomes.root_outcome.Goals as goal
 
 pub returns : goal.returns
 returns c =
-    root_is (next_in c.args.next.now) (dead_in c.args.dead.now) c.args.limit c.args.start c.lost-count-lost.result c.member-after.result c.led_to.result
-    c.requires.none c.requires.ends c.lost-count-lost.ensures c.member-after.ensures c.led_to.ensures
+    root_is (next_in c.args.next.now) (dead_in c.args.dead.now) c.args.limit c.args.start c.lost_count-lost.result c.member_after.result c.led_to.result
+    c.requires.none c.requires.ends c.lost_count-lost.ensures c.member_after.ensures c.led_to.ensures

@@ -6,4 +6,4 @@ use Rattle.page_prune.proofs.prune.count_made_dead.Given as goal
 
 abbrev pub invariant-loop-i : goal.invariant-loop-i
 invariant-loop-i l =
-    (l.made-dead ≡ count_to (λ n. becomes_dead (slot_at (view_of l.page) n) (slot_after (outcome_in l.outcomes n) (slot_at (view_of l.page) n))) l.i) × (l.made-dead ≤ l.i)
+    (l.made_dead ≡ count_to (λ n. becomes_dead (slot_at (view_of l.page) n) (slot_after (outcome_in l.outcomes n) (slot_at (view_of l.page) n))) l.i) × (l.made_dead ≤ l.i)

@@ -5,5 +5,5 @@ use Rattle.page_room.proofs.blocks.block_taking.Goals as goal
 
 pub returns : goal.returns
 returns c =
-    let a = c.search-blocks.ensures in
-    sym (least_is (λ b. takes c.args.reserve (get_or c.args.pages.now b []) (24 + c.args.row-len)) (length c.args.pages.now) c.search-blocks.result a.within a.before a.found)
+    let a = c.search_blocks.ensures in
+    sym (least_is (λ b. takes c.args.reserve (get_or c.args.pages.now b []) (24 + c.args.row_len)) (length c.args.pages.now) c.search_blocks.result a.within a.before a.found)

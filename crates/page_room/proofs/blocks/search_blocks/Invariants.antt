@@ -5,7 +5,7 @@ use Rattle.page_room.proofs.blocks.search_blocks.Given as goal
 -- the blocks passed do not take the row
 abbrev pub invariant-loop-block : goal.invariant-loop-block
 invariant-loop-block l =
-    (l.block ≤ length l.pages) × ((k : ℕ) → k < l.block → takes l.reserve (get_or l.pages k []) (24 + l.row-len) ≡ false)
+    (l.block ≤ length l.pages) × ((k : ℕ) → k < l.block → takes l.reserve (get_or l.pages k []) (24 + l.row_len) ≡ false)
 
 abbrev pub decreases-loop-block : goal.decreases-loop-block
 decreases-loop-block l = length l.pages - l.block

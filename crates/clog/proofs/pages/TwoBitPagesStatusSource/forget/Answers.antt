@@ -3,6 +3,6 @@ use Rattle.clog.proofs.pages.TwoBitPagesStatusSource.forget.Goals as goal
 
 pub returns : goal.returns
 returns c = record {
-  source = forget_promised c.args.self.now c.drop-before.new.self c.args.c c.drop-before.result c.ranges.c.fits c.drop-before.ensures.answer c.drop-before.ensures.left;
-  left = c.drop-before.ensures.left;
+  source = forget_promised c.args.self.now c.drop_before.new.self c.args.c c.drop_before.result c.ranges.c.fits c.drop_before.ensures.answer c.drop_before.ensures.left;
+  left = c.drop_before.ensures.left;
 }

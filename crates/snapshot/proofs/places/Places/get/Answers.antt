@@ -14,4 +14,4 @@ pub returns : goal.returns
 returns c =
     let at = c.args.self.now.at in
     let read = get_or_default at c.args.place None c.index-self-place.result (omega (arith, c.args.self.now.all)) in
-    seen_by c.as-ref.result ∙ ap (option_map data_of) (c.as-ref.ensures.value ∙ sym read) ∙ sym (seen_at at c.args.place)
+    seen_by c.as_ref.result ∙ ap (option_map data_of) (c.as_ref.ensures.value ∙ sym read) ∙ sym (seen_at at c.args.place)

@@ -7,7 +7,7 @@ use Rattle.snapshot.proofs.places.Places.is_taken.Goals as goal
 pub returns-then-place-lt-COUNT : goal.returns-then-place-lt-COUNT
 returns-then-place-lt-COUNT c =
     let at = c.args.self.now.at in
-    c.is-some.ensures ∙ sym (ap is_some (get_or_default at c.args.place None c.index-self-place.result (omega (arith, c.args.self.now.all)))) ∙ sym (taken_at at c.args.place)
+    c.is_some.ensures ∙ sym (ap is_some (get_or_default at c.args.place None c.index-self-place.result (omega (arith, c.args.self.now.all)))) ∙ sym (taken_at at c.args.place)
 
 pub returns-else-place-lt-COUNT : goal.returns-else-place-lt-COUNT
 returns-else-place-lt-COUNT c =

@@ -4,16 +4,16 @@ use Rattle.std.proofs.lemmas.List.Sums.{prefix_len-drop_yes, prefix_len-drop_no,
 use Rattle.snapshot.proofs.Occupied.{lowest_seen}
 use Rattle.snapshot.proofs.places.Places.lowest_free.Goals as goal
 
-pub returns-then-is-none : goal.returns-then-is-none
-returns-then-is-none c =
+pub returns-then-is_none : goal.returns-then-is_none
+returns-then-is_none c =
     let at = c.args.self.now.at in
-    let z = prefix_len-drop_no is_some at c.loop-i.i c.place-item.result (omega (arith, c.args.self.now.all)) (c.is-none.ensures ∙ ap not c.if-is-none.true) in
+    let z = prefix_len-drop_no is_some at c.loop-i.i c.place-item.result (omega (arith, c.args.self.now.all)) (c.is_none.ensures ∙ ap not c.if-is_none.true) in
     omega (arith, z, c.loop-i.invariant, lowest_seen at)
 
 pub loop-i-preserved : goal.loop-i-preserved
 loop-i-preserved c =
     let at = c.args.self.now.at in
-    let z = prefix_len-drop_yes is_some at c.loop-i.i c.place-item.result (omega (arith, c.args.self.now.all)) (c.is-none.ensures ∙ ap not c.if-is-none.false) in
+    let z = prefix_len-drop_yes is_some at c.loop-i.i c.place-item.result (omega (arith, c.args.self.now.all)) (c.is_none.ensures ∙ ap not c.if-is_none.false) in
     omega (arith, z, c.loop-i.invariant)
 
 pub returns : goal.returns

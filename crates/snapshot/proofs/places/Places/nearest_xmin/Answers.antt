@@ -9,7 +9,7 @@ loop-place-preserved c =
     let at = c.args.self.now.at in
     let i = c.loop-place.place-index in
     let here : i < length at = omega (arith, c.args.self.now.all) in
-    ap (λ (b : ℕ). rest o b (drop (i + 1) at)) c.nearer-xmin-best.ensures ∙ sym (passes o c.loop-place.best at i c.place-item.result here) ∙ c.loop-place.invariant
+    ap (λ (b : ℕ). rest o b (drop (i + 1) at)) c.nearer_xmin-best.ensures ∙ sym (passes o c.loop-place.best at i c.place-item.result here) ∙ c.loop-place.invariant
 
 pub returns : goal.returns
 returns c =

@@ -5,9 +5,9 @@ use Rattle.status_cache.proofs.cache.StatusCacheStatusSource.forget.Goals as goa
 
 pub returns : goal.returns
 returns g c s =
-    let below = c.forget-answer.ensures s.0 in
+    let below = c.forget_answer.ensures s.0 in
     let slots = c.args.self.now.slots.at in
-    let left = c.clear-if.ensures ∙ ap (λ b. cond b (replicate 64 empty_slot) slots) c.is-ok.ensures.value in
+    let left = c.clear_if.ensures ∙ ap (λ b. cond b (replicate 64 empty_slot) slots) c.is_ok.ensures.value in
     record {
       sound = (below.sound, forgot_truthful _ _ c.args.c _ slots _ below.answer below.meaning left s.1);
       answer = below.answer;

@@ -12,7 +12,7 @@ returns c s =
     let x = c.args.x in
     let end = c.args.end in
     let statuses' = c.placed-self.result in
-    let is : is_open ((meaning_of p).status x) ≡ true = ap is_open (sym c.look.ensures) ∙ sym c.is-open.ensures ∙ c.if-not-is-open.false in
+    let is : is_open ((meaning_of p).status x) ≡ true = ap is_open (sym c.look.ensures) ∙ sym c.is_open.ensures ∙ c.if-not-is_open.false in
     let wrote : statuses' ≡ set p.statuses (distance p.oldest x) (end_status end) =
     c.placed-self.ensures ∙ ap (λ k. set p.statuses k c.status.result) c.distance.ensures ∙ ap (set p.statuses (distance p.oldest x)) c.status.ensures in
     record {

@@ -9,7 +9,7 @@ pub returns : goal.returns
 returns c s =
     let p = c.args.self.now in
     let down = c.shifted-self.result in
-    let accepted = sym c.is-forgettable.ensures ∙ c.if-not-is-forgettable.false in
+    let accepted = sym c.is_forgettable.ensures ∙ c.if-not-is_forgettable.false in
     let moved : (k : ℕ) → get_or down k Unknown ≡ get_or p.statuses (distance p.oldest c.args.c + k) Unknown
     = λ k. c.shifted-self.ensures k ∙ ap (λ d. get_or p.statuses (d + k) Unknown) c.distance.ensures in
     record {
