@@ -3,8 +3,8 @@ use Rattle.xid.specs.Statuses.{code_of}
 use Rattle.clog.specs.Codes.{with_code}
 use Rattle.clog.proofs.codes.with_code.Goals as goal
 
-pub returns-in-default : goal.returns-in-default
-returns-in-default c =
+pub returns-in_default : goal.returns-in_default
+returns-in_default c =
     let last : c.args.x % 4 ≡ 3 = omega arith in
     let code = c.code-code.ensures.value in
     let here : c.code-code.result * 64 + c.args.byte % 64 ≡ with_code c.args.byte 3 (code_of c.args.status) = omega arith in

@@ -34,7 +34,7 @@ loop-block-preserved g c =
       start_later c.args.after c.loop-block.block c.loop-block.auto.block,
       λ s.
           let i = c.loop-block.invariant.1 s in
-          let e = c.in-default.ensures i.0 in
+          let e = c.in_default.ensures i.0 in
           let found = in_block m (data_of c.args.snapshot.now) c.args.pages.now c.args.after in (
             e.sound,
             e.kept ∙ i.1,

@@ -6,5 +6,5 @@ pub among_broken-requires : goal.among_broken-requires
 among_broken-requires c = record {
   few = search rules;
   count = search rules;
-  lie = all_lie c.args.kinds.now c.args.page.now c.in-default-first_own_break.ensures;
+  lie = all_lie c.args.kinds.now c.args.page.now c.in_default-first_own_break.ensures;
 }

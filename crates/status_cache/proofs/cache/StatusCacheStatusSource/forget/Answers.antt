@@ -5,7 +5,7 @@ use Rattle.status_cache.proofs.cache.StatusCacheStatusSource.forget.Goals as goa
 
 pub returns : goal.returns
 returns g c s =
-    let below = c.forget_answer.ensures s.0 in
+    let below = c.forget-answer.ensures s.0 in
     let slots = c.args.self.now.slots.at in
     let left = c.clear_if.ensures ∙ ap (λ b. cond b (replicate 64 empty_slot) slots) c.is_ok.ensures.value in
     record {
