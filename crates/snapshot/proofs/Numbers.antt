@@ -1,17 +1,10 @@
 -- Lists of numbers, as the code keeps them.
 use Rattle.std.proofs.Common.{◌≡◌, ℕ, ◌+◌, ◌<◌, ◌≤◌, Bool, true, false, cond, eqb, ltb, List, [], ◌∷◌, ◌++◌, length, get_or, take, set, Decides, sym, refl, ap, ◌∙◌, subst, arith}
-use Rattle.std.specs.List.{IsAnyAnswer}
-use Rattle.std.proofs.lemmas.List.Elements.{contains_decides}
 use Rattle.std.proofs.lemmas.List.Filters.{FiltersInPlace, FiltersInPlace-more_set, FiltersInPlace-more_no}
 use Rattle.std.proofs.lemmas.List.{get_or_default, length-take-le, take_more_set}
 use Rattle.std.proofs.lemmas.Bool.{lt-ltb, cond-true}
 use Rattle.std.proofs.lemmas.Bool.Decides.{Decides-by_or, Decides-eqb, same_from_decides}
 use Rattle.snapshot.specs.Lists.{is_listed}
-
--- what the library's `contains` answers
-pub listed_by : (xs : List ℕ) (x : ℕ) (r : Bool) → IsAnyAnswer (λ y t. Decides t (y ≡ x)) xs r → r ≡ is_listed x xs
-listed_by xs x r h = same_from_decides r (is_listed x xs) (contains_decides eqb Decides-eqb xs x r h)
-    (Decides-by_or (λ y. eqb y x) (λ y. y ≡ x) (is_listed x) (λ y. Decides-eqb y x) refl (λ _ _. refl) xs)
 
 -- one number more at the end of the first n
 module _ (items : List ℕ) (n x : ℕ) (all : length items ≡ 64) (room : n < 64) where
