@@ -12,17 +12,17 @@ loop-i-init c = (c.requires.start, ap (marked c.args.marks.now) (chain_first (ne
 pub loop-i-preserved : goal.loop-i-preserved
 loop-i-preserved c = (
   c.requires.within c.loop-i.at,
-  sym (ap (marked c.loop-i.marks) (chain_step (next_in c.args.next.now) c.args.steps c.loop-i.-i c.loop-i.at c.loop-i-test.true c.if-at-eq0.false))
+  sym (ap (marked c.loop-i.marks) (chain_step (next_in c.args.next.now) c.args.steps c.loop-i._i c.loop-i.at c.loop-i-test.true c.if-at-eq0.false))
       ∙ c.loop-i.invariant.1,
 )
 
 pub returns-then-at-eq0 : goal.returns-then-at-eq0
 returns-then-at-eq0 c =
     let nx = next_in c.args.next.now in
-    sym (ap (marked c.loop-i.marks) (ap (chain nx (c.args.steps - c.loop-i.-i)) c.if-at-eq0.true ∙ chain_none nx (c.args.steps - c.loop-i.-i)))
+    sym (ap (marked c.loop-i.marks) (ap (chain nx (c.args.steps - c.loop-i._i)) c.if-at-eq0.true ∙ chain_none nx (c.args.steps - c.loop-i._i)))
     ∙ c.loop-i.invariant.1
 
 pub returns : goal.returns
 returns c =
-    sym (ap (marked c.loop-i.marks) (chain_last (next_in c.args.next.now) c.args.steps c.loop-i.-i c.loop-i.at c.loop-i-test.false))
+    sym (ap (marked c.loop-i.marks) (chain_last (next_in c.args.next.now) c.args.steps c.loop-i._i c.loop-i.at c.loop-i-test.false))
     ∙ c.loop-i.invariant.1

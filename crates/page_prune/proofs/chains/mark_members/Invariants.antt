@@ -8,4 +8,4 @@ use Rattle.page_prune.proofs.chains.mark_members.Given as goal
 abbrev pub invariant-loop-i : goal.invariant-loop-i
 invariant-loop-i l =
     (l.at ≤ 291)
-    × (marked l.marks (chain (next_in l.next) (l.steps - l.-i) l.at) ≡ marked l.initial.marks (chain (next_in l.next) l.steps l.start))
+    × (marked l.marks (chain (next_in l.next) (l.steps - l._i) l.at) ≡ marked l.initial.marks (chain (next_in l.next) l.steps l.start))

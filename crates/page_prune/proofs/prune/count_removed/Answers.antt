@@ -12,8 +12,8 @@ loop-i-preserved c =
     let ss = view_of c.args.page.now in let os = outcome_in c.args.outcomes.now in let n = c.loop-i.i + 1 in
     let e = ap (λ (s : Slot). loses_version s (slot_after (os n) s)) (slot_at_lem c.args.page.now n (omega arith) (omega arith)) in
     elim c.if-removes_version.branch [
-      | then-removes_version w ↦ (count_yes (λ k. loses_version (slot_at ss k) (slot_after (os k) (slot_at ss k))) c.loop-i.i c.loop-i.removed c.if-removes_version.removed c.loop-i.invariant.0 (w.if-removes_version.ensures ∙ e) w.removed_is, omega (arith, w.removed_is))
-      | else-removes_version w ↦ (count_no (λ k. loses_version (slot_at ss k) (slot_after (os k) (slot_at ss k))) c.loop-i.i c.loop-i.removed c.if-removes_version.removed c.loop-i.invariant.0 (w.if-removes_version.ensures ∙ e) w.removed_is, omega (arith, w.removed_is))
+      | then-removes_version w ↦ (count_yes (λ k. loses_version (slot_at ss k) (slot_after (os k) (slot_at ss k))) c.loop-i.i c.loop-i.removed c.if-removes_version.removed c.loop-i.invariant.0 (w.if-removes_version.ensures ∙ e) w.removed-is, omega (arith, w.removed-is))
+      | else-removes_version w ↦ (count_no (λ k. loses_version (slot_at ss k) (slot_after (os k) (slot_at ss k))) c.loop-i.i c.loop-i.removed c.if-removes_version.removed c.loop-i.invariant.0 (w.if-removes_version.ensures ∙ e) w.removed-is, omega (arith, w.removed-is))
     ]
 
 pub returns : goal.returns
