@@ -102,7 +102,7 @@ fn print_totals(rt: &HostRuntime, pages: u64, totals: Totals) -> io::Result<()> 
 
 fn fault(rt: &HostRuntime, path: &str, what: &str) -> anyhow::Error {
     let _ = eprintln!(rt; "inspect: {path}: {what}");
-    "no heap image".into()
+    anyhow!("no heap image")
 }
 
 // Reads the file, unless its size already says that it is no heap image.
