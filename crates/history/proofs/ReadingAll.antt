@@ -19,7 +19,8 @@ use Rattle.history.specs.Claim.Among.{first, later}
 use Rattle.history.specs.Claim.Ascending.{nil, cons}
 use Rattle.history.proofs.Invariant.{Agrees, SlotsAgree, id_at}
 use Rattle.history.proofs.Visible.{There, listed_there}
-use Rattle.history.proofs.Nexts.{InHeap, held_in, above_then, above_other, next_right}
+use Rattle.history.proofs.Heap.{InHeap, held_in}
+use Rattle.history.proofs.Nexts.{above_then, above_other, next_right}
 
 -- an address by its place in the heap: a page has fewer than 4,096 pointers
 rank : Address → ℕ
