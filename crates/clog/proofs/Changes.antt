@@ -1,5 +1,5 @@
 -- What each call leaves of sound pages.
-use Rattle.std.proofs.Common.{◌≡◌, ℕ, ◌+◌, ◌*◌, ◌/◌, ◌%◌, ◌<◌, ◌≤◌, Bool, true, false, cond, eqb, leb, List, length, Result, sym, refl, ap, ◌∙◌, subst, ⊎_elim, arith, lit<}
+use Rattle.std.proofs.Common.{◌≡◌, ℕ, ◌+◌, ◌*◌, ◌/◌, ◌%◌, ◌<◌, ◌≤◌, Bool, true, false, cond, eqb, List, length, Result, sym, refl, ap, ◌∙◌, subst, ⊎_elim, arith, lit<}
 use Rattle.std.proofs.lemmas.Bool.{eq-eqb, leb-false, cases_Bool, cond-true, cond-false}
 use Rattle.xid.specs.declared.statuses.Status.{Status}
 use Rattle.xid.specs.declared.statuses.Status.TheVariants.{Open, Committed, Aborted, Unknown}
@@ -12,7 +12,7 @@ use Rattle.xid.specs.Meaning.{Known, windowed, meaning_by, forgettable, after_op
 use Rattle.xid.proofs.Distances.{successor_steps}
 use Rattle.xid.proofs.Stored.{opened_by, opened_known, closed_by, closed_known, open_within, forgot_by, forgot_known, forgettable_near}
 use Rattle.xid.proofs.Windows.{window_shrinks}
-use Rattle.clog.specs.Codes.{code_at, put_code}
+use Rattle.clog.specs.Codes.{put_code}
 use Rattle.clog.specs.declared.pages.TwoBitPages.{TwoBitPages}
 use Rattle.clog.specs.Pages.{fitting_size, stored_in, full_at, Sound, bytes_of, meaning_of, IsSound, OpenLeft, CloseLeft, ForgetLeft}
 use Rattle.clog.specs.Laws.{size_least, size_most}

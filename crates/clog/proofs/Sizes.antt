@@ -1,5 +1,5 @@
 -- A size with one bit set divides 2^30, so that the slots come round where the numbers do.
-use Rattle.std.proofs.Common.{◌≡◌, ℕ, zero, suc, ◌+◌, ◌*◌, ◌/◌, ◌%◌, ◌^◌, ◌<◌, ◌≤◌, true, ◌&&◌, eqb, leb, ◌⊎◌, sym, refl, ap, ◌∙◌, subst, ⊎_elim, mul_assoc, one-mul, arith, lit<}
+use Rattle.std.proofs.Common.{◌≡◌, ℕ, zero, suc, ◌+◌, ◌*◌, ◌/◌, ◌%◌, ◌^◌, ◌<◌, true, ◌&&◌, eqb, leb, sym, ap, ◌∙◌, subst, ⊎_elim, mul_assoc, one-mul, arith, lit<}
 use native.Mathlib.Nat.{pow-succ', mul-mod_right}
 use lib.Count.{ones, ones_step, ones-le}
 use Rattle.std.proofs.lemmas.Bool.{cases_eq, and_parts, eqb-true}

@@ -1,9 +1,9 @@
 -- Each number of the window has a slot of its own.
-use Rattle.std.proofs.Common.{◌≡◌, ℕ, ◌+◌, ◌*◌, ◌/◌, ◌%◌, ◌<◌, ◌≤◌, true, ◌⊎◌, List, length, ap, ◌∙◌, inl, inr, ⊎_elim, mul-le-mul_left, mul-add, arith}
+use Rattle.std.proofs.Common.{◌≡◌, ℕ, ◌+◌, ◌*◌, ◌/◌, ◌%◌, ◌<◌, ◌≤◌, true, ◌⊎◌, List, length, ap, inl, inr, ⊎_elim, mul-le-mul_left, mul-add, arith}
 use native.Mathlib.Nat.{div-add-mod}
 use Rattle.std.proofs.lemmas.Bool.{cases_lt, cases_eq, cases_order}
 use Rattle.xid.specs.Numbers.{distance, in_window}
-use Rattle.xid.proofs.Windows.{Within, window_within}
+use Rattle.xid.proofs.Windows.{window_within}
 use Rattle.clog.specs.Pages.{Sound}
 use Rattle.clog.specs.Laws.{size_least, held_at_wrap, held_elsewhere}
 use Rattle.clog.proofs.Sizes.{size_divides}

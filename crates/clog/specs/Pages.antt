@@ -1,5 +1,5 @@
 -- What two-bit pages mean, and when they are made.
-use Rattle.std.specs.Prelude.{◌≡◌, ℕ, ◌+◌, ◌*◌, ◌<◌, ◌≤◌, Bool, true, false, cond, ◌&&◌, List, length, Some, None, Option, ◌==◌, count_ones, nat_le}
+use Rattle.std.specs.Prelude.{◌≡◌, ℕ, ◌+◌, ◌*◌, ◌<◌, ◌≤◌, Bool, true, cond, ◌&&◌, List, length, Some, None, Option, ◌==◌, count_ones, nat_le}
 use Rattle.xid.specs.declared.statuses.Status.{Status}
 use Rattle.xid.specs.declared.statuses.Status.TheVariants.{Open}
 use Rattle.xid.specs.declared.statuses.End.{End}

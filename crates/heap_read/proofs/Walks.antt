@@ -1,9 +1,9 @@
 -- The walk along a chain.
-use Rattle.std.proofs.Common.{◌≡◌, ℕ, zero, suc, ◌+◌, ◌-◌, ◌<◌, ◌≤◌, Bool, true, false, cond, ◌⊎◌, List, [], ◌∷◌, Some, None, Option, sym, refl, ap, ◌∙◌, inl, inr, ⊎_elim, arith}
+use Rattle.std.proofs.Common.{◌≡◌, ℕ, zero, suc, ◌-◌, ◌<◌, ◌≤◌, Bool, true, false, ◌⊎◌, List, [], ◌∷◌, Some, None, sym, refl, ap, ◌∙◌, inl, inr, ⊎_elim, arith}
 use Rattle.std.proofs.lemmas.Bool.{cond-true, cond-false}
 use Rattle.page.specs.Headers.{count_of}
 use Rattle.page.specs.LinePointers.{pointer_at}
-use Rattle.page.specs.Slots.{Slot, slot_of, slot_no}
+use Rattle.page.specs.Slots.{slot_of, slot_no}
 use Rattle.page_check.proofs.Slots.{slot_no_in, slot_no_past}
 use Rattle.xid.specs.Meaning.{Meaning}
 use Rattle.xid.specs.declared.statuses.Status.{Status}

@@ -1,5 +1,5 @@
 -- Counting up.
-use Rattle.std.proofs.Common.{◌≡◌, ℕ, ◌+◌, Bool, true, false, cond, sym, refl, ap, ◌∙◌, add-one, arith}
+use Rattle.std.proofs.Common.{◌≡◌, ℕ, ◌+◌, Bool, true, false, sym, add-one, arith}
 use Rattle.page_check.specs.All.{count_to}
 
 pub count_yes : (f : ℕ → Bool) (i n m : ℕ) → n ≡ count_to f i → true ≡ f (i + 1) → m ≡ n + 1 → m ≡ count_to f (i + 1)

@@ -1,5 +1,5 @@
 -- The size of a heap image, and the line pointers of a page by state.
-use Rattle.std.specs.Prelude.{ℕ, zero, suc, ◌+◌, ◌/◌, ◌%◌, Bool, cond, List, Ok, Err, Result, ◌==◌, nat_le}
+use Rattle.std.specs.Prelude.{ℕ, ◌/◌, ◌%◌, Bool, cond, List, Ok, Err, Result, ◌==◌, nat_le}
 use Rattle.page.specs.Headers.{count_of}
 use Rattle.page.specs.LinePointers.{state_code, line_pointer_at}
 use Rattle.page.specs.declared.line_pointers.State.{State}

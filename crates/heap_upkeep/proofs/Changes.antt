@@ -1,10 +1,9 @@
 -- One version changed, and one more.
-use Rattle.std.proofs.Common.{◌≡◌, ℕ, ◌+◌, Bool, true, false, cond, leb, List, [], Some, None, Option, sym, refl, ap, ◌∙◌, add-one, arith}
+use Rattle.std.proofs.Common.{◌≡◌, ℕ, ◌+◌, Bool, true, false, cond, leb, List, Some, None, sym, refl, ap, ◌∙◌, add-one, arith}
 use Rattle.std.proofs.lemmas.Bool.{cond-true}
 use Rattle.page.specs.LinePointers.{pointer_at}
 use Rattle.page.specs.Slots.{Version, decoded}
 use Rattle.page.specs.Versions.{header_at, version_at, row_of}
-use Rattle.page.specs.declared.line_pointers.Pointer.{Pointer}
 use Rattle.page.specs.declared.line_pointers.Pointer.TheVariants.{Normal}
 use Rattle.page.specs.declared.versions.VersionHeader.{VersionHeader}
 use Rattle.page_write.specs.Changing.{rewrite, change_at, change_version, change_to}

@@ -1,5 +1,5 @@
 -- One version marked by freeze.
-use Rattle.std.proofs.Common.{◌≡◌, ℕ, Bool, List, [], Some, sym, refl, ap, ◌∙◌}
+use Rattle.std.proofs.Common.{◌≡◌, ℕ, Bool, List, [], Some, ap, ◌∙◌}
 use Rattle.page.specs.LinePointers.{pointer_at}
 use Rattle.page.specs.Slots.{decoded}
 use Rattle.page.specs.Versions.{header_at, version_at}

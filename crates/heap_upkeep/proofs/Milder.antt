@@ -1,6 +1,6 @@
 -- Hints and the marks of freeze name no more than before.
-use Rattle.std.proofs.Common.{◌≡◌, ℕ, ◌<◌, Bool, true, false, cond, not, ◌&&◌, ◌||◌, eqb, leb, sym, refl, ap, ◌∙◌, ⊎_elim, arith}
-use Rattle.std.proofs.lemmas.Bool.{both_ways, cases_Bool, and_parts}
+use Rattle.std.proofs.Common.{◌≡◌, ℕ, ◌<◌, Bool, true, false, cond, not, ◌&&◌, ◌||◌, eqb, leb, refl, arith}
+use Rattle.std.proofs.lemmas.Bool.{both_ways, and_parts}
 use Rattle.page.specs.Slots.{Version}
 use Rattle.page_write_laws.specs.Slots.{Replaces, Milder}
 use Rattle.xid.specs.Numbers.{precedes}
@@ -8,10 +8,9 @@ use Rattle.xid.specs.declared.statuses.Status.{Status}
 use Rattle.xid.specs.declared.statuses.Status.TheVariants.{Open, Committed, Aborted, Unknown}
 use Rattle.heap_read.specs.Fates.{remover_fate, remover_by_status}
 use Rattle.heap_read.specs.Links.{is_none}
-use Rattle.heap_read.specs.declared.fates.RemoverFate.{RemoverFate}
 use Rattle.heap_read.specs.declared.fates.RemoverFate.TheVariants as remover
 use Rattle.heap_upkeep.specs.Hints.{is_committed, is_aborted, remover_news, hinted}
-use Rattle.heap_upkeep.specs.Freezing.{to_freeze, to_clear, frozen_at}
+use Rattle.heap_upkeep.specs.Freezing.{to_clear, frozen_at}
 
 -- news of a remover never gives it both bits
 one_bit_lem : (z a b : Bool) (s : Status) → (a && b) ≡ false

@@ -1,9 +1,9 @@
 -- A table of links along the names of a page, as pruning wants it.
-use Rattle.std.proofs.Common.{◌≡◌, ℕ, zero, suc, ◌+◌, ◌<◌, ◌≤◌, Bool, true, false, not, ◌&&◌, ◌⊎◌, List, get_or, sym, refl, ap, ◌∙◌, subst, inl, inr, ⊎_elim, arith}
+use Rattle.std.proofs.Common.{◌≡◌, ℕ, zero, suc, ◌<◌, ◌≤◌, Bool, true, false, not, ◌&&◌, ◌⊎◌, List, sym, refl, ap, ◌∙◌, subst, inl, inr, ⊎_elim, arith}
 use mathlib.Core.Path.{fun_ext}
 use Rattle.std.proofs.lemmas.Bool.{cond-true, cond-false, and_parts, cases_Bool, cases_lt}
 use Rattle.page.specs.Headers.{count_of}
-use Rattle.page.specs.Slots.{Slot, slot_no, slot_at, view_of}
+use Rattle.page.specs.Slots.{Slot, slot_no, view_of}
 use Rattle.page.specs.Slots.Slot.{unused, dead, redirect, holds}
 use Rattle.page.specs.declared.kinds.Kind.{Kind}
 use Rattle.page_check.specs.Rules.{name_of, leads_well, is_heap_only}

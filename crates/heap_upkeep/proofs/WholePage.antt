@@ -1,9 +1,9 @@
 -- A whole page changed version by version: its slots, and the counts on the page as it was.
-use Rattle.std.proofs.Common.{◌≡◌, ℕ, zero, suc, ◌+◌, ◌<◌, ◌≤◌, true, leb, List, map, length, get_or, sym, refl, ap, ◌∙◌, arith}
+use Rattle.std.proofs.Common.{◌≡◌, ℕ, zero, suc, ◌+◌, ◌<◌, ◌≤◌, true, leb, List, map, length, sym, refl, ap, ◌∙◌, arith}
 use Rattle.std.proofs.lemmas.Bool.{le-leb, cond-true}
 use Rattle.page.specs.Headers.{count_of}
 use Rattle.page.specs.LinePointers.{pointer_at}
-use Rattle.page.specs.Slots.{Version, Slot, decoded, slot_of, slot_no, slot_at, view_of}
+use Rattle.page.specs.Slots.{Version, decoded, slot_of, slot_no, slot_at, view_of}
 use Rattle.page.specs.Slots.Slot.{holds}
 use Rattle.page.specs.Versions.{header_at, row_of}
 use Rattle.page.specs.declared.kinds.Kind.{Kind}

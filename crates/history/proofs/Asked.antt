@@ -1,26 +1,23 @@
 -- What a granted call was asked: each check of each call by its name.
-use Rattle.std.proofs.Common.{◌≡◌, ℕ, ◌<◌, Bool, true, false, cond, not, ◌&&◌, ◌||◌, eqb, ltb, ◌⊎◌, List, [], ◌∷◌, ◌++◌, length, is_some, Some, None, sym, refl, ap, ◌∙◌, subst, inl, inr, arith}
-use Rattle.std.proofs.lemmas.Bool.{cases_Bool, both_ways, and_parts, or_cases, not-true, eqb-true, ltb-true}
+use Rattle.std.proofs.Common.{◌≡◌, ℕ, ◌<◌, Bool, true, false, not, ◌||◌, eqb, ltb, ◌⊎◌, List, [], ◌∷◌, ◌++◌, length, is_some, Some, None, refl, inl, inr, arith}
+use Rattle.std.proofs.lemmas.Bool.{cases_Bool, both_ways, and_parts, not-true, ltb-true}
 use Rattle.page.specs.Kinds.{row_fits}
 use Rattle.page.specs.Slots.{Version, Slot}
 use Rattle.page.specs.Slots.Slot.{unused, dead, redirect, holds}
 use Rattle.page.specs.declared.versions.Address.{Address}
-use Rattle.page_prune.specs.Pruned.{has_version}
 use Rattle.xid.specs.Numbers.{in_window}
 use Rattle.xid.specs.Statuses.{is_known}
 use Rattle.xid.specs.Meaning.{Meaning, Lawful, forgettable}
 use Rattle.xid.specs.declared.statuses.Status.{Status}
 use Rattle.xid.specs.declared.statuses.Status.TheVariants as status
 use Rattle.snapshot.specs.Snapshots.{lowest_free}
-use Rattle.heap_checks.specs.Numbers.{version_known, slot_known, still_needed}
+use Rattle.heap_checks.specs.Numbers.{version_known, still_needed}
 use Rattle.heap_read.specs.Fates.{remover_fate, remover_by_status}
 use Rattle.heap_read.specs.Links.{is_none}
-use Rattle.heap_read.specs.declared.fates.RemoverFate.TheVariants as remover
 use Rattle.heap_upkeep.specs.Dead.{is_removed}
-use Rattle.history.specs.Archive.{Archive, Transactions, slot_in}
-use Rattle.history.specs.Calls.{Change}
-use Rattle.history.specs.Calls.Change.{begin, commit, abort, register, release, insert, update, delete, hint, prune, freeze, forget}
-use Rattle.history.specs.Checks.{Check, first_failing, checks, page_checks, version_checks, heap_fits, block_exists, page_lawful, all_lawful, is_active, place_taken, numbers_known, block_for, cutoff_fits, of_version, is_made_for, is_pending, not_pending, not_removed}
+use Rattle.history.specs.Archive.{Archive, slot_in}
+use Rattle.history.specs.Calls.Change.{begin, commit, abort, register, insert, update, delete, freeze, forget}
+use Rattle.history.specs.Checks.{Check, first_failing, checks, page_checks, version_checks, is_active, block_for, cutoff_fits, is_made_for, is_pending, not_pending, not_removed}
 
 abbrev pub AllPass : List Check → Type 0
 AllPass [] = Unit {0}

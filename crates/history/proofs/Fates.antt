@@ -1,6 +1,6 @@
 -- What the page tells of the creator and the remover of a version, by the ledger.
 use Rattle.std.proofs.Common.{◌≡◌, ℕ, ◌+◌, ◌<◌, ◌≤◌, Bool, true, false, not, ◌||◌, eqb, ◌⊎◌, sym, refl, ap, ◌∙◌, inl, inr, arith}
-use Rattle.std.proofs.lemmas.Bool.{both_ways, cases_Bool, cases_eq, and_from, or_left, le-leb, ne_eqb, not-true, not-false, not_from_false}
+use Rattle.std.proofs.lemmas.Bool.{both_ways, cases_Bool, cases_eq, and_from, le-leb, ne_eqb, not-true, not-false, not_from_false}
 use Rattle.page.specs.Slots.{Version}
 use Rattle.page.specs.declared.versions.Address.{Address}
 use Rattle.xid.specs.Line.{number_on}

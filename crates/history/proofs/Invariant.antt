@@ -2,14 +2,14 @@
 --
 -- Transaction i of the ledger stands at the place base + i of the endless line of numbers, the oldest number of the source at the
 -- place low. So numbers come round, and places never do.
-use Rattle.std.proofs.Common.{◌≡◌, ℕ, ◌+◌, ◌<◌, ◌≤◌, Bool, true, false, cond, not, ◌&&◌, ◌||◌, leb, ◌⊎◌, List, [], length, get_or, Some, None, Option}
+use Rattle.std.proofs.Common.{◌≡◌, ℕ, ◌+◌, ◌<◌, ◌≤◌, Bool, true, false, not, ◌&&◌, ◌||◌, leb, ◌⊎◌, List, length, get_or, Some, None}
 use Rattle.page.specs.Slots.{Version, Slot}
-use Rattle.page.specs.Slots.Slot.{unused, dead, redirect, holds}
+use Rattle.page.specs.Slots.Slot.{redirect, holds}
 use Rattle.page.specs.declared.kinds.Kind.{Kind}
 use Rattle.page.specs.declared.versions.Address.{Address}
 use Rattle.page_check.specs.Lawful.{is_lawful}
 use Rattle.xid.specs.Line.{number_on, full_number}
-use Rattle.xid.specs.Meaning.{Meaning, Lawful}
+use Rattle.xid.specs.Meaning.{Lawful}
 use Rattle.xid.specs.Statuses.{is_open}
 use Rattle.xid.specs.declared.statuses.Status.{Status}
 use Rattle.snapshot.specs.Lists.{is_listed}
@@ -19,7 +19,7 @@ use Rattle.heap_upkeep.specs.Hints.{is_committed}
 use Rattle.history.specs.Archive.{Archive, Transactions, page_at, slot_in}
 use Rattle.history.specs.Checks.{place_taken}
 use Rattle.history.specs.Granted.{or_zero}
-use Rattle.history.specs.Ledger.{TransactionLog, VersionLog, Entry, Ledger}
+use Rattle.history.specs.Ledger.{TransactionLog, VersionLog, Ledger}
 
 -- Transactions.
 

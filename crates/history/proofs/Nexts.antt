@@ -1,12 +1,10 @@
 -- next finds the lowest visible version above an address: the first version above it that the ledger lists.
-use Rattle.std.proofs.Common.{◌≡◌, ℕ, zero, suc, ◌+◌, ◌-◌, ◌<◌, ◌≤◌, Bool, true, false, cond, ◌&&◌, ltb, leb, ◌⊎◌, List, [], length, get_or, Some, None, Option, sym, refl, ap, ◌∙◌, inl, inr, arith}
+use Rattle.std.proofs.Common.{◌≡◌, ℕ, zero, suc, ◌+◌, ◌-◌, ◌<◌, ◌≤◌, Bool, true, false, cond, ◌&&◌, ltb, ◌⊎◌, List, length, get_or, Some, None, Option, sym, refl, ap, ◌∙◌, inl, inr, arith}
 use Rattle.std.specs.Option.{option_map}
-use Rattle.std.proofs.lemmas.Bool.{both_ways, cases_Bool, cases_eq, cases_lt, cases_order, and_parts, ltb-true, lt-ltb, leb-true, cond-false}
-use Rattle.std.proofs.lemmas.List.{get_or_past}
+use Rattle.std.proofs.lemmas.Bool.{both_ways, cases_Bool, cases_eq, cases_lt, cases_order, and_parts, ltb-true, lt-ltb}
 use Rattle.std.proofs.lemmas.Bool.Decides.{nat_tests}
 use Rattle.page.specs.Headers.{count_of}
-use Rattle.page.specs.LinePointers.{pointer_at}
-use Rattle.page.specs.Slots.{Version, Slot, slot_of, slot_no}
+use Rattle.page.specs.Slots.{Version, Slot, slot_no}
 use Rattle.page.specs.Slots.Slot.{unused, dead, redirect, holds}
 use Rattle.page.specs.declared.versions.Address.{Address}
 use Rattle.page_check.specs.All.{first_below}
@@ -15,12 +13,11 @@ use Rattle.snapshot.specs.Snapshots.{SnapshotData}
 use Rattle.heap_read.specs.Fates.{visible}
 use Rattle.heap_read.specs.Reading.{visible_slot, above, next_on, next_in, start_in, address_in, handed}
 use Rattle.heap_read.proofs.Firsts.{skip_at}
-use Rattle.heap_read.proofs.Shown.{slot_no_nowhere}
 use Rattle.history.specs.Archive.{Transactions, page_at, slot_in, is_above}
 use Rattle.history.specs.Ledger.{Ledger, Listed}
 use Rattle.history.specs.Claim.{NextIs, FirstPast}
 use Rattle.history.proofs.Addresses.{address}
-use Rattle.history.proofs.Heap.{InHeap, held_in}
+use Rattle.history.proofs.Heap.{held_in}
 use Rattle.history.proofs.Invariant.{Agrees, SlotsAgree, id_at}
 use Rattle.history.proofs.Visible.{There, listed_there, visible_listed, row_listed, address_listed}
 

@@ -19,7 +19,7 @@ use Rattle.history.specs.Archive.{Transactions, horizon}
 use Rattle.history.specs.Checks.{place_taken}
 use Rattle.history.specs.Ledger.{TransactionLog, VersionLog}
 use Rattle.history.proofs.Ordered.{settled_maker}
-use Rattle.history.proofs.Invariant.{Agrees, Order, Settled, Passed, Prior, Follow, Target, Rows, Account, SlotsAgree, pointer_in, id_at, maker_at, root_at}
+use Rattle.history.proofs.Invariant.{Agrees, Order, Passed, Prior, Follow, Target, Rows, Account, SlotsAgree, pointer_in, id_at, maker_at, root_at}
 use Rattle.history.proofs.Invariant.Account.{here, aborted, past}
 use Rattle.history.proofs.Effects.{Prunes}
 use Rattle.history.proofs.Fates.{remover_one}

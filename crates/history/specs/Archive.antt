@@ -1,5 +1,5 @@
 -- An archive: its pages as bytes, and what it knows of transactions.
-use Rattle.std.specs.Prelude.{ℕ, Bool, true, false, cond, not, ◌&&◌, ◌||◌, List, [], Option, ◌==◌, nat_lt, slice_index_or}
+use Rattle.std.specs.Prelude.{ℕ, Bool, ◌&&◌, ◌||◌, List, [], Option, ◌==◌, nat_lt, slice_index_or}
 use Rattle.page.specs.Slots.{Slot, slot_no}
 use Rattle.page.specs.declared.kinds.Kind.{Kind}
 use Rattle.page.specs.declared.versions.Address.{Address}

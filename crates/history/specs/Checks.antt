@@ -3,8 +3,6 @@ use Rattle.std.specs.Prelude.{ℕ, ◌+◌, Bool, true, false, cond, not, ◌&&�
 use Rattle.page.specs.Kinds.{row_fits}
 use Rattle.page.specs.Slots.{Version, Slot}
 use Rattle.page.specs.Slots.Slot.{unused, dead, redirect, holds}
-use Rattle.page.specs.declared.kinds.Kind.{Kind}
-use Rattle.page.specs.declared.versions.Address.{Address}
 use Rattle.page_check.specs.All.{all_to}
 use Rattle.page_check.specs.Lawful.{is_lawful}
 use Rattle.page_room.specs.Room.{first_block_taking}

@@ -1,9 +1,8 @@
 -- The snapshot claim: after every run, a registered snapshot reads exactly what the ledger lists for its place.
-use Rattle.std.specs.Prelude.{◌≡◌, ℕ, ◌<◌, Bool, true, false, List, [], ◌∷◌, length, Some, None, Ok, Err, Option, ◌≢◌}
+use Rattle.std.specs.Prelude.{◌≡◌, ℕ, ◌<◌, Bool, true, false, List, [], ◌∷◌, length, Some, None, Ok, Option, ◌≢◌}
 use Rattle.page.specs.declared.versions.Address.{Address}
 use Rattle.heap_read.specs.Reading.{FoundRow}
 use Rattle.history.specs.Archive.{Archive, is_above}
-use Rattle.history.specs.Calls.{Reading}
 use Rattle.history.specs.Calls.Reading.{next, fetch}
 use Rattle.history.specs.Checks.{place_taken}
 use Rattle.history.specs.Granted.{shown}

@@ -1,5 +1,5 @@
 -- What a granted call answers, and what it leaves.
-use Rattle.std.specs.Prelude.{ℕ, ◌+◌, Bool, true, false, cond, not, ◌&&◌, ◌||◌, List, [], ◌∷◌, ◌++◌, length, is_some, Some, None, Ok, Err, Option, Result, slice_index_or, slice_set}
+use Rattle.std.specs.Prelude.{ℕ, Bool, cond, ◌&&◌, List, Some, None, Ok, Err, Option, Result, slice_index_or, slice_set}
 use Rattle.page.specs.declared.versions.Address.{Address}
 use Rattle.page_room.specs.Room.{takes, free_pointer}
 use Rattle.page_write.specs.Changing.{mark_removed}
@@ -8,7 +8,7 @@ use Rattle.page_write.specs.declared.fields.Origin.{Origin}
 use Rattle.page_write.specs.declared.fields.Origin.TheVariants as origin
 use Rattle.page_write.specs.declared.fields.Removal.{Removal}
 use Rattle.page_write.specs.declared.fields.Removal.TheVariants as removal
-use Rattle.xid.specs.Meaning.{Meaning, after_open, after_close, after_forget}
+use Rattle.xid.specs.Meaning.{after_open, after_close, after_forget}
 use Rattle.xid.specs.declared.statuses.End.{End}
 use Rattle.xid.specs.declared.statuses.End.TheVariants.{Commit, Abort}
 use Rattle.snapshot.specs.Snapshots.{SnapshotData, snapshot_at, lowest_free}
@@ -20,7 +20,7 @@ use Rattle.heap_upkeep.specs.Freezing.{marked_page, frozen_count, cleared_count}
 use Rattle.heap_upkeep.specs.Pruning.{pruned_at, removed_at, made_dead_at}
 use Rattle.refusal.specs.declared.Refusal.{Refusal}
 use Rattle.history.specs.Archive.{Archive, Transactions, page_at, horizon}
-use Rattle.history.specs.Calls.{Change, Reading, Answer, Reply, Shown}
+use Rattle.history.specs.Calls.{Change, Reading, Answer, Shown}
 use Rattle.history.specs.Calls.Change.{begin, commit, abort, register, release, insert, update, delete, hint, prune, freeze, forget}
 use Rattle.history.specs.Calls.Reading.{next, fetch}
 use Rattle.history.specs.Checks.{first_failing, reading_checks, version_length, reserve, block_for}

@@ -1,5 +1,5 @@
 -- Two laws beside the claim: every change can be made after every run, and the pages of a run are lawful.
-use Rattle.std.specs.Prelude.{◌≡◌, Bool, true, List}
+use Rattle.std.specs.Prelude.{◌≡◌, true, List}
 use Rattle.history.specs.Archive.{Archive}
 use Rattle.history.specs.Calls.{Change, Reply}
 use Rattle.history.specs.Checks.{heap_fits, all_lawful}

@@ -1,10 +1,10 @@
 -- Runs: lists of changes from an unused archive, each granted or refused.
-use Rattle.std.specs.Prelude.{◌≡◌, ℕ, ◌<◌, ◌≤◌, Bool, true, false, List, [], ◌∷◌, length, get_or, replicate, Some, None, Ok, Err, Option}
+use Rattle.std.specs.Prelude.{◌≡◌, ℕ, ◌≤◌, Bool, false, List, [], ◌∷◌, length, replicate, Some, None, Ok, Err}
 use Rattle.page_write.specs.Empty.{empty_page}
-use Rattle.xid.specs.Meaning.{Meaning, Lawful}
+use Rattle.xid.specs.Meaning.{Lawful}
 use Rattle.xid.specs.Statuses.{is_open}
 use Rattle.refusal.specs.declared.Refusal.{Refusal}
-use Rattle.history.specs.Archive.{Archive, Transactions}
+use Rattle.history.specs.Archive.{Archive}
 use Rattle.history.specs.Calls.{Change, Reply}
 use Rattle.history.specs.Checks.{first_failing, checks}
 use Rattle.history.specs.Granted.{after, answer}

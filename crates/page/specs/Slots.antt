@@ -1,5 +1,5 @@
 -- A page as a list of slots: what each line pointer stands for, its version decoded.
-use Rattle.std.specs.Prelude.{ℕ, zero, suc, Bool, cond, ◌&&◌, List, map, Some, None, Option, nat_le, slice_index_or}
+use Rattle.std.specs.Prelude.{ℕ, zero, suc, Bool, cond, ◌&&◌, List, map, None, Option, nat_le, slice_index_or}
 use Rattle.std.specs.List.{range_with_len}
 use Rattle.page.specs.Headers.{count_of}
 use Rattle.page.specs.LinePointers.{pointer_at}

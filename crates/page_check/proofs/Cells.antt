@@ -1,5 +1,5 @@
 -- The cells of versions, and what the pass over them finds.
-use Rattle.std.proofs.Common.{◌≡◌, ℕ, ◌+◌, ◌-◌, ◌*◌, ◌/◌, ◌%◌, ◌<◌, ◌≤◌, Bool, true, false, cond, not, ◌&&◌, ◌||◌, eqb, ltb, leb, List, length, get_or, replicate, Some, None, Option, sym, refl, ap, ◌∙◌, ⊎_elim, arith}
+use Rattle.std.proofs.Common.{◌≡◌, ℕ, ◌+◌, ◌-◌, ◌*◌, ◌/◌, ◌<◌, ◌≤◌, Bool, true, false, not, ◌&&◌, ◌||◌, ltb, leb, List, length, get_or, replicate, Some, None, sym, refl, ap, ◌∙◌, ⊎_elim, arith}
 use borrow.Rule.Slice.PartMut.{put_mid}
 use Rattle.std.proofs.lemmas.List.{places, get_or-replicate}
 use Rattle.std.proofs.lemmas.Bool.{and_parts, and_from, leb-true, le-leb, lt-leb, lt-ltb, le-ltb, ltb-true, cases_lt, not-true, not-false, both_ways, or_from, cond-true, cond-false}
@@ -8,13 +8,12 @@ use Rattle.page.specs.Headers.{count_of}
 use Rattle.page.specs.LinePointers.{pointer_at}
 use Rattle.page.specs.declared.line_pointers.Pointer.{Pointer}
 use Rattle.page.specs.declared.line_pointers.Pointer.TheVariants.{Unused, Normal, Redirect, Dead}
-use Rattle.page_check.specs.All.{all_to, each, first_to}
+use Rattle.page_check.specs.All.{first_to}
 use Rattle.page_check.specs.Rules.{apart, page_holds}
 use Rattle.page_check.specs.Lawful.{page_break}
-use Rattle.page_check.specs.Marking.{Lies, LiesIn, AllLie, first_cell, end_cell, covers, free_to, cells_free, cells_taken}
+use Rattle.page_check.specs.Marking.{LiesIn, AllLie, covers, cells_free, cells_taken}
 use Rattle.page_check.specs.declared.rules.PageRule.{PageRule}
 use Rattle.page_check.specs.declared.rules.PageRule.TheVariants.{NoOverlap}
-use Rattle.page_check.specs.declared.rules.Broken.{Broken}
 use Rattle.page_check.specs.declared.rules.Broken.TheVariants.{Among}
 use Rattle.page_check.proofs.All.{all_to_at, all_to_miss, each_before, first_to_more, first_to_hit}
 use Rattle.page_check.proofs.Marks.{Shows, marks_more, marks_free, marks_busy}

@@ -1,16 +1,15 @@
 -- Names of heap-only versions, and what the pass over them finds.
-use Rattle.std.proofs.Common.{◌≡◌, ℕ, zero, suc, ◌+◌, ◌<◌, ◌≤◌, Bool, true, false, cond, not, ◌&&◌, ◌||◌, eqb, ◌≢◌, ◌⊎◌, List, length, get_or, set, Some, None, Option, sym, refl, ap, ◌∙◌, ⊎_elim, arith}
+use Rattle.std.proofs.Common.{◌≡◌, ℕ, zero, suc, ◌+◌, ◌<◌, ◌≤◌, Bool, true, false, not, ◌&&◌, ◌||◌, eqb, ◌≢◌, List, length, get_or, set, Some, None, sym, refl, ap, ◌∙◌, ⊎_elim, arith}
 use Rattle.std.proofs.lemmas.List.{get_or-set_same, get_or-set_other}
 use Rattle.std.proofs.lemmas.Bool.{and_parts, and_from, or_cases, eqb-true, cases_Bool, cases_eq, cases_lt, not-true, not-false, not_from_false, not_from_true, both_ways, or_from, or_parts, or_left, or_right, eq-eqb, ne_eqb}
 use Rattle.page.specs.Headers.{count_of}
 use Rattle.page.specs.Slots.{Slot, slot_no}
 use Rattle.page.specs.Slots.Slot.{unused, dead, redirect, holds}
-use Rattle.page_check.specs.All.{all_to, any_to, each, first_to}
-use Rattle.page_check.specs.Rules.{is_heap_only, is_made_by, name_of, leads_well, other_name, page_holds}
+use Rattle.page_check.specs.All.{any_to, first_to}
+use Rattle.page_check.specs.Rules.{is_heap_only, is_made_by, name_of, other_name}
 use Rattle.page_check.specs.Lawful.{page_break}
 use Rattle.page_check.specs.Marking.{name_free, name_taken}
-use Rattle.page_check.specs.declared.rules.PageRule.TheVariants.{RedirectTarget, NamedOnce}
-use Rattle.page_check.specs.declared.rules.Broken.{Broken}
+use Rattle.page_check.specs.declared.rules.PageRule.TheVariants.{NamedOnce}
 use Rattle.page_check.specs.declared.rules.Broken.TheVariants.{Among}
 use Rattle.page_check.proofs.All.{each_before, first_to_more, first_to_hit}
 use Rattle.page_check.proofs.Marks.{Shows, marks_more, marks_free, marks_busy}

@@ -1,5 +1,5 @@
 -- The rules of a line pointer and its version by themselves.
-use Rattle.std.proofs.Common.{◌≡◌, ℕ, ◌+◌, ◌<◌, ◌≤◌, Bool, true, false, cond, leb, List, is_some, Some, None, Option, sym, refl, ap, ◌∙◌}
+use Rattle.std.proofs.Common.{◌≡◌, ℕ, ◌+◌, Bool, true, false, cond, leb, List, Some, None, Option, sym, ap, ◌∙◌}
 use Rattle.std.specs.Option.{option_or, option_map}
 use Rattle.page.specs.Versions.{header_at, version_at}
 use Rattle.page.specs.declared.kinds.Kind.{Kind}

@@ -1,21 +1,19 @@
 -- What is reported: none exactly where the page is lawful, and else a rule that fails.
-use Rattle.std.proofs.Common.{◌≡◌, ℕ, zero, suc, ◌+◌, ◌<◌, ◌≤◌, Bool, true, false, cond, not, ◌&&◌, List, [], ◌∷◌, is_some, IfSome, Some, None, Option, sym, refl, ap, ◌∙◌, ⊎_elim, arith}
+use Rattle.std.proofs.Common.{◌≡◌, ℕ, zero, suc, ◌+◌, Bool, true, false, cond, not, ◌&&◌, List, [], ◌∷◌, is_some, IfSome, Some, None, Option, sym, refl, ap, ◌∙◌, ⊎_elim, arith}
 use Rattle.std.specs.Option.{option_or, option_map}
 use Rattle.std.proofs.lemmas.Bool.{and_parts, cases_Bool}
 use Rattle.std.proofs.lemmas.Bool.Decides.{nat_tests}
 use Rattle.page.specs.Headers.{header_of, count_of}
-use Rattle.page.specs.LinePointers.{line_pointer_at, meaning_of, pointer_at}
+use Rattle.page.specs.LinePointers.{line_pointer_at, meaning_of}
 use Rattle.page.specs.Versions.{header_at}
 use Rattle.page.specs.declared.kinds.Kind.{Kind}
 use Rattle.page.specs.declared.line_pointers.State.{State}
 use Rattle.page.specs.declared.line_pointers.State.TheVariants as state
 use Rattle.page.specs.declared.line_pointers.LinePointer.{LinePointer}
-use Rattle.page_check.specs.All.{all_to, each, first_to, all_of, first_of}
+use Rattle.page_check.specs.All.{each, first_to, all_of, first_of}
 use Rattle.page_check.specs.Rules.{header_holds, header_rules, pointer_holds, pointer_rules, version_holds, version_rules, page_holds}
 use Rattle.page_check.specs.Lawful.{own_holds, own_break, page_break, is_lawful, header_broken, own_broken, among_broken, first_broken, Fails}
 use Rattle.page_check.specs.Marking.{LiesIn, AllLie}
-use Rattle.page_check.specs.declared.rules.HeaderRule.{HeaderRule}
-use Rattle.page_check.specs.declared.rules.PointerRule.{PointerRule}
 use Rattle.page_check.specs.declared.rules.PageRule.{PageRule}
 use Rattle.page_check.specs.declared.rules.PageRule.TheVariants.{NoOverlap, RedirectTarget, NamedOnce}
 use Rattle.page_check.specs.declared.rules.Broken.{Broken}

@@ -1,5 +1,5 @@
 -- When a page is lawful, and the rule that it breaks first.
-use Rattle.std.specs.Prelude.{◌≡◌, ℕ, Bool, true, false, cond, ◌&&◌, List, Some, None, Option}
+use Rattle.std.specs.Prelude.{◌≡◌, ℕ, Bool, false, cond, ◌&&◌, List, Some, None, Option}
 use Rattle.std.specs.Option.{option_or, option_map}
 use Rattle.page.specs.Headers.{header_of, count_of}
 use Rattle.page.specs.LinePointers.{line_pointer_at}

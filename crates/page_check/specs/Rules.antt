@@ -3,7 +3,7 @@ use Rattle.std.specs.Prelude.{ℕ, ◌+◌, ◌-◌, ◌*◌, ◌/◌, ◌%◌, 
 use Rattle.page.specs.Kinds.{body_len, fits}
 use Rattle.page.specs.Headers.{header_of, pointer_count}
 use Rattle.page.specs.LinePointers.{pointer_at}
-use Rattle.page.specs.Versions.{weight, word_of, has_mark, header_at}
+use Rattle.page.specs.Versions.{weight, word_of, has_mark}
 use Rattle.page.specs.Slots.{Slot, slot_no}
 use Rattle.page.specs.Slots.Slot.{unused, dead, redirect, holds}
 use Rattle.page.specs.declared.kinds.Kind.{Kind}

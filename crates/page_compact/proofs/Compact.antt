@@ -1,16 +1,15 @@
 -- The page after its versions were laid anew.
-use Rattle.std.proofs.Common.{◌≡◌, ℕ, zero, suc, ◌+◌, ◌-◌, ◌*◌, ◌/◌, ◌%◌, ◌<◌, ◌≤◌, min, Bool, true, false, ◌||◌, leb, ◌≢◌, ◌⊎◌, List, length, get_or, is_some, sym, refl, ap, ◌∙◌, inl, inr, ⊎_elim, arith}
-use mathlib.Core.Path.{fun_ext}
+use Rattle.std.proofs.Common.{◌≡◌, ℕ, ◌+◌, ◌-◌, ◌*◌, ◌/◌, ◌%◌, ◌<◌, ◌≤◌, min, true, leb, ◌⊎◌, List, length, get_or, is_some, sym, refl, ap, ◌∙◌, inl, inr, ⊎_elim, arith}
 use Rattle.std.specs.List.{between}
 use Rattle.std.proofs.lemmas.List.{ext_get_or}
 use Rattle.std.proofs.lemmas.List.Edits.{length-between, get_or-between}
 use Rattle.std.proofs.lemmas.Bool.{cases_lt, le-leb, or_left}
-use Rattle.page.specs.Bytes.{get16, get32, put16}
+use Rattle.page.specs.Bytes.{get16, get32}
 use Rattle.page.specs.Kinds.{body_len, fits}
 use Rattle.page.specs.Headers.{header_of, count_of}
 use Rattle.page.specs.LinePointers.{line_pointer_of, line_pointer_at, pointer_of, pointer_at, state_of, meaning_of, word_at, word_of}
 use Rattle.page.specs.Versions.{header_at, row_of}
-use Rattle.page.specs.Slots.{Slot, slot_of, slot_no, view_of, decoded}
+use Rattle.page.specs.Slots.{slot_of, slot_no, view_of, decoded}
 use Rattle.page.specs.Slots.Slot.{unused, holds}
 use Rattle.page.specs.declared.kinds.Kind.{Kind}
 use Rattle.page.specs.declared.line_pointers.State.{State}

@@ -1,17 +1,16 @@
 -- What is read of the page while its versions are laid.
-use Rattle.std.proofs.Common.{◌≡◌, ℕ, zero, suc, ◌+◌, ◌-◌, ◌*◌, ◌/◌, ◌%◌, ◌<◌, ◌≤◌, ◌≢◌, ◌⊎◌, List, length, get_or, replicate, sym, refl, ap, ◌∙◌, subst, inl, inr, ⊎_elim, add-one, arith, rules}
+use Rattle.std.proofs.Common.{◌≡◌, ℕ, zero, suc, ◌+◌, ◌-◌, ◌*◌, ◌<◌, ◌≤◌, ◌≢◌, ◌⊎◌, List, length, get_or, replicate, sym, refl, ap, ◌∙◌, subst, inl, inr, ⊎_elim, add-one, arith, rules}
 use borrow.Rule.Slice.PartMut.{put_mid}
 use Rattle.std.specs.List.{between}
 use Rattle.std.proofs.lemmas.List.{places, length-replicate, get_or-replicate}
 use Rattle.std.proofs.lemmas.List.Edits.{length-between, get_or-between}
 use Rattle.std.proofs.lemmas.Bool.{cases_lt}
-use Rattle.page.specs.Bytes.{get32, put32}
 use Rattle.page.specs.Headers.{header_of, count_of}
 use Rattle.page.specs.LinePointers.{pointer_at, word_at, word_of}
 use Rattle.page.specs.declared.kinds.Kind.{Kind}
 use Rattle.page.specs.declared.line_pointers.Pointer.{Pointer}
 use Rattle.page.specs.declared.line_pointers.Pointer.TheVariants.{Unused, Normal, Redirect, Dead}
-use Rattle.page_check.specs.Marking.{LiesIn, Lies}
+use Rattle.page_check.specs.Marking.{Lies}
 use Rattle.page_laws.specs.Windows.{Same}
 use Rattle.page_laws.proofs.Windows.{same_put32, same_put_mid, length-put_mid, length-put32, get32_same, get32-put32}
 use Rattle.page_room.specs.Room.{up8}

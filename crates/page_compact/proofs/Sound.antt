@@ -1,5 +1,5 @@
 -- A page whose header and line pointers keep their own rules and whose versions lie apart, whatever its redirects and names.
-use Rattle.std.proofs.Common.{◌≡◌, ℕ, ◌+◌, ◌*◌, ◌<◌, ◌≤◌, Bool, true, ◌≢◌, ◌⊎◌, List, sym, refl, ap, ◌∙◌, inl, inr, ⊎_elim, arith}
+use Rattle.std.proofs.Common.{◌≡◌, ℕ, ◌+◌, ◌*◌, ◌<◌, ◌≤◌, true, ◌≢◌, List, refl, ⊎_elim, arith}
 use Rattle.std.proofs.lemmas.Bool.{cases_lt}
 use Rattle.page.specs.Headers.{header_of, count_of}
 use Rattle.page.specs.LinePointers.{line_pointer_at, meaning_of, pointer_of, pointer_at}
@@ -13,7 +13,7 @@ use Rattle.page_check.specs.Rules.{apart}
 use Rattle.page_check.specs.Lawful.{own_holds}
 use Rattle.page_check.specs.Marking.{LiesIn}
 use Rattle.page_laws.specs.Keeps.{HeaderKeeps, Keeps}
-use Rattle.page_laws.specs.Windows.{Same, SameOf}
+use Rattle.page_laws.specs.Windows.{SameOf}
 use Rattle.page_laws.proofs.Own.{VersionKeeps, OwnKeeps, own_tells, own_from, version_same, apart_sym}
 
 pub record Sound (kinds : List Kind) (p : List ℕ) : Type 0 where

@@ -1,5 +1,5 @@
 -- The loop that lays the versions, in plain variables.
-use Rattle.std.proofs.Common.{◌≡◌, ℕ, suc, ◌+◌, ◌-◌, List, sym, refl, ap, ◌∙◌, add-one}
+use Rattle.std.proofs.Common.{◌≡◌, ℕ, ◌+◌, ◌-◌, List, sym, ap, ◌∙◌, add-one}
 use Rattle.page.specs.LinePointers.{pointer_at}
 use Rattle.page_compact.specs.Compaction.{top_to, laid_to, laid, size_of}
 

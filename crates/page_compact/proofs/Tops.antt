@@ -1,5 +1,5 @@
 -- Where the versions come to lie.
-use Rattle.std.proofs.Common.{◌≡◌, ℕ, zero, suc, ◌+◌, ◌-◌, ◌*◌, ◌/◌, ◌%◌, ◌<◌, ◌≤◌, Bool, true, false, ◌||◌, leb, ◌≢◌, ◌⊎◌, List, sym, refl, ap, ◌∙◌, inl, inr, ⊎_elim, arith}
+use Rattle.std.proofs.Common.{◌≡◌, ℕ, zero, suc, ◌+◌, ◌-◌, ◌*◌, ◌/◌, ◌%◌, ◌<◌, ◌≤◌, true, leb, ◌⊎◌, List, refl, ap, inl, inr, ⊎_elim, arith}
 use Rattle.std.proofs.lemmas.Bool.{leb-true, or_cases}
 use Rattle.page.specs.Headers.{header_of, count_of}
 use Rattle.page.specs.LinePointers.{pointer_at}
@@ -8,7 +8,6 @@ use Rattle.page.specs.declared.line_pointers.Pointer.{Pointer}
 use Rattle.page.specs.declared.line_pointers.Pointer.TheVariants.{Unused, Normal, Redirect, Dead}
 use Rattle.page_check.specs.Rules.{apart}
 use Rattle.page_check.specs.Marking.{LiesIn}
-use Rattle.page_laws.proofs.Own.{VersionKeeps}
 use Rattle.page_compact.specs.Compaction.{size_of, top_to, Packs}
 use Rattle.page_compact.proofs.Packing.{sum_to, packing}
 use Rattle.page_compact.proofs.Steps.{top_to_more}

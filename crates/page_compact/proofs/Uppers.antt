@@ -1,5 +1,5 @@
 -- How far the versions reach down, by the slots; and compaction of a lawful page as a whole.
-use Rattle.std.proofs.Common.{◌≡◌, ℕ, zero, suc, ◌+◌, ◌-◌, ◌*◌, ◌/◌, ◌%◌, ◌<◌, ◌≤◌, true, List, map, length, get_or, sum_by, sym, refl, ap, ◌∙◌, add-one, arith}
+use Rattle.std.proofs.Common.{◌≡◌, ℕ, zero, suc, ◌+◌, ◌-◌, ◌≤◌, true, List, map, length, sum_by, sym, refl, ap, ◌∙◌, add-one, arith}
 use Rattle.std.specs.List.{range_with_len}
 use Rattle.std.proofs.lemmas.List.FromFn.{sum_by-map-range_with_len_more}
 use Rattle.std.proofs.lemmas.List.Edits.{length-between}
@@ -16,7 +16,7 @@ use Rattle.page_laws.specs.Keeps.{Keeps}
 use Rattle.page_laws.proofs.Facts.{lawful_tells, lawful_from}
 use Rattle.page_laws.proofs.Views.{view_fun}
 use Rattle.page_room.specs.Room.{up8}
-use Rattle.page_compact.specs.Compaction.{size_of, top_to, compacted}
+use Rattle.page_compact.specs.Compaction.{size_of, compacted}
 use Rattle.page_compact.specs.Laws.{slot_size, Compacts}
 use Rattle.page_compact.proofs.Packing.{sum_to}
 use Rattle.page_compact.proofs.Sound.{Sound, sound_of, lies_at}

@@ -1,17 +1,17 @@
 -- The tests of a lawful page and the facts behind them.
-use Rattle.std.proofs.Common.{◌≡◌, ℕ, ◌+◌, ◌-◌, ◌%◌, ◌<◌, ◌≤◌, Bool, true, false, ◌&&◌, eqb, leb, List, [], ◌∷◌, sym, refl, ap, ◌∙◌, arith}
-use Rattle.std.proofs.lemmas.Bool.{and_parts, and_from, eqb-true, eq-eqb, leb-true, le-leb}
+use Rattle.std.proofs.Common.{◌≡◌, ℕ, ◌+◌, ◌-◌, ◌%◌, ◌<◌, ◌≤◌, Bool, true, ◌&&◌, List, refl, arith}
+use Rattle.std.proofs.lemmas.Bool.{and_parts, and_from, eq-eqb, le-leb}
 use Rattle.std.proofs.lemmas.Bool.Decides.{nat_tests}
 use Rattle.page.specs.Headers.{header_of, pointer_count, count_of}
 use Rattle.page.specs.LinePointers.{line_pointer_at, pointer_at}
 use Rattle.page.specs.Slots.{slot_no}
 use Rattle.page.specs.declared.kinds.Kind.{Kind}
 use Rattle.page.specs.declared.headers.PageHeader.{PageHeader}
-use Rattle.page_check.specs.All.{all_to, each, all_of}
+use Rattle.page_check.specs.All.{each, all_of}
 use Rattle.page_check.specs.Rules.{header_holds, header_rules, apart, name_of, leads_well, other_name, page_holds}
 use Rattle.page_check.specs.Lawful.{is_lawful, own_holds}
 use Rattle.page_check.specs.declared.rules.PageRule.TheVariants.{NoOverlap, RedirectTarget, NamedOnce}
-use Rattle.page_check.proofs.All.{all_to_at, all_to_from, each_before}
+use Rattle.page_check.proofs.All.{all_to_at, all_to_from}
 use Rattle.page_laws.specs.Keeps.{HeaderKeeps, Keeps}
 
 pub header_tells : (h : PageHeader) → all_of (header_holds h) header_rules ≡ true → HeaderKeeps h

@@ -1,12 +1,11 @@
 -- The rules of a line pointer and its version as facts, and on two pages that hold the same version.
-use Rattle.std.proofs.Common.{◌≡◌, ℕ, ◌+◌, ◌-◌, ◌*◌, ◌/◌, ◌%◌, ◌<◌, ◌≤◌, Bool, true, false, ◌&&◌, ◌||◌, eqb, leb, ◌≢◌, ◌⊎◌, List, [], ◌∷◌, length, get_or, is_some, sym, refl, ap, ◌∙◌, inl, inr, ⊎_elim, arith}
-use Rattle.std.specs.List.{between}
+use Rattle.std.proofs.Common.{◌≡◌, ℕ, ◌+◌, ◌-◌, ◌*◌, ◌/◌, ◌%◌, ◌<◌, ◌≤◌, true, ◌&&◌, eqb, leb, ◌≢◌, ◌⊎◌, List, length, is_some, sym, refl, ap, ◌∙◌, inl, inr, ⊎_elim, arith}
 use Rattle.std.proofs.lemmas.Bool.{and_parts, and_from, or_cases, eqb-true, eq-eqb, leb-true, le-leb, or_left, or_right, cases_lt}
 use Rattle.page.specs.Kinds.{body_len, fits}
 use Rattle.page.specs.Headers.{header_of, count_of}
-use Rattle.page.specs.LinePointers.{line_pointer_at, meaning_of, pointer_of, pointer_at}
+use Rattle.page.specs.LinePointers.{line_pointer_at, meaning_of, pointer_at}
 use Rattle.page.specs.Versions.{header_at, row_of}
-use Rattle.page.specs.Slots.{Slot, slot_of, decoded}
+use Rattle.page.specs.Slots.{slot_of, decoded}
 use Rattle.page.specs.Slots.Slot.{holds}
 use Rattle.page.specs.declared.kinds.Kind.{Kind}
 use Rattle.page.specs.declared.line_pointers.State.{State}

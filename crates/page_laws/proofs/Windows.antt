@@ -1,13 +1,12 @@
 -- What is read of a page depends on the bytes of its place alone, and a write leaves all others.
-use Rattle.std.proofs.Common.{◌≡◌, ℕ, ◌+◌, ◌-◌, ◌*◌, ◌/◌, ◌%◌, ◌<◌, ◌≤◌, ◌≢◌, ◌⊎◌, List, length, get_or, set, sym, refl, ap, ◌∙◌, inl, inr, ⊎_elim, arith, rules}
+use Rattle.std.proofs.Common.{◌≡◌, ℕ, ◌+◌, ◌*◌, ◌%◌, ◌<◌, ◌≤◌, ◌≢◌, ◌⊎◌, List, length, get_or, set, sym, ap, ◌∙◌, inl, inr, ⊎_elim, arith, rules}
 use borrow.Rule.Slice.PartMut.{put_mid}
 use Rattle.std.specs.List.{between}
 use Rattle.std.proofs.lemmas.List.{ext_get_or, get_or-set_same, get_or-set_other, places, length-set}
 use Rattle.std.proofs.lemmas.List.Edits.{length-between, get_or-between}
 use Rattle.page.specs.Bytes.{get16, get32, put16, put32}
-use Rattle.page.specs.LinePointers.{word_at, line_pointer_of, line_pointer_at, pointer_of, pointer_at}
-use Rattle.page.specs.Versions.{header_at, row_of}
-use Rattle.page.specs.declared.line_pointers.LinePointer.{LinePointer}
+use Rattle.page.specs.LinePointers.{line_pointer_of, line_pointer_at, pointer_of, pointer_at}
+use Rattle.page.specs.Versions.{header_at}
 use Rattle.page_laws.specs.Windows.{Same}
 
 -- Reading.

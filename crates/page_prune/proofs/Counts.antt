@@ -1,10 +1,9 @@
 -- The loops over the outcomes, in plain variables; and outcomes that agree on the pointers of a page.
-use Rattle.std.proofs.Common.{◌≡◌, ℕ, zero, suc, ◌+◌, ◌<◌, ◌≤◌, Bool, true, false, cond, ◌||◌, ◌⊎◌, List, length, sym, refl, ap, ◌∙◌, subst, ⊎_elim, add-one, arith}
+use Rattle.std.proofs.Common.{◌≡◌, ℕ, zero, suc, ◌+◌, ◌<◌, ◌≤◌, Bool, true, false, cond, ◌||◌, List, length, sym, refl, ap, ◌∙◌, subst, ⊎_elim, add-one, arith}
 use Rattle.std.proofs.lemmas.Bool.{cases_eq, or_left, or_right, or_from}
 use Rattle.page.specs.Headers.{count_of}
 use Rattle.page.specs.LinePointers.{pointer_at}
-use Rattle.page.specs.Slots.{Slot, slot_of, slot_at, view_of}
-use Rattle.page_check.specs.All.{any_to}
+use Rattle.page.specs.Slots.{slot_of, slot_at, view_of}
 use Rattle.page_check.proofs.Slots.{slot_no_in}
 use Rattle.page_laws.proofs.Views.{view_at, view_length}
 use Rattle.page_compact.specs.Compaction.{LawfulPage, compacted}

@@ -1,6 +1,5 @@
 -- The slots that a prune leaves.
-use Rattle.std.proofs.Common.{◌≡◌, ℕ, zero, suc, ◌+◌, ◌-◌, ◌<◌, ◌≤◌, Bool, true, false, cond, not, ◌&&◌, ◌||◌, eqb, ◌≢◌, ◌⊎◌, List, [], ◌∷◌, map, length, get_or, sym, refl, ap, ◌∙◌, subst, inl, inr, ⊎_elim, add-one, arith}
-use Rattle.std.specs.List.{range_with_len}
+use Rattle.std.proofs.Common.{◌≡◌, ℕ, zero, suc, ◌+◌, ◌-◌, ◌<◌, ◌≤◌, Bool, true, false, cond, not, ◌&&◌, ◌||◌, ◌⊎◌, List, [], ◌∷◌, length, sym, refl, ap, ◌∙◌, subst, inl, inr, ⊎_elim, add-one, arith}
 use Rattle.std.proofs.lemmas.List.FromFn.{length-map-range_with_len, get_or-map-range_with_len}
 use Rattle.std.proofs.lemmas.Bool.{cases_lt, cases_eq, or_parts, or_from, or_left, or_right, both_ways, cond-true, cond-false, cases_Bool, and_left}
 use Rattle.page.specs.Slots.{Slot, Version, slot_at}
@@ -15,7 +14,7 @@ use Rattle.page_prune.specs.Pruned.{leads_to, root_outcome, heap_only_outcome, o
 use Rattle.page_prune.specs.declared.outcomes.Outcome.{Outcome}
 use Rattle.page_prune.specs.declared.outcomes.Outcome.TheVariants.{Stays, Freed, MadeDead, Redirected}
 use Rattle.page_prune.proofs.Names.{Named, Led, Pruning, walks, link_heap, link_none, link_small, heap_past, slot_past}
-use Rattle.page_prune.proofs.Walks.{clash, walk_shift, walk_zero, chain_none, chain_full, member_walk, lost_member, none_lost, some_lost, left_alive, cut, first}
+use Rattle.page_prune.proofs.Walks.{clash, walk_shift, walk_zero, chain_none, chain_full, member_walk, lost_member, none_lost, left_alive, cut, first}
 use Rattle.page_prune.proofs.Repoint.{Small}
 
 any_to_from : (f : ℕ → Bool) (n k : ℕ) → k < n → f k ≡ true → any_to f n ≡ true

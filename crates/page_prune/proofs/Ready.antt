@@ -1,7 +1,7 @@
 -- What the code may rely on: a lawful page, and links along its names.
-use Rattle.std.proofs.Common.{◌≡◌, ℕ, zero, suc, ◌+◌, ◌-◌, ◌<◌, ◌≤◌, Bool, true, false, cond, ◌||◌, eqb, ◌≢◌, ◌⊎◌, List, [], length, get_or, set, sym, refl, ap, ◌∙◌, ⊎_elim, add-one, arith}
+use Rattle.std.proofs.Common.{◌≡◌, ℕ, suc, ◌+◌, ◌-◌, ◌<◌, ◌≤◌, Bool, true, false, cond, ◌||◌, eqb, ◌≢◌, List, length, get_or, set, sym, refl, ap, ◌∙◌, ⊎_elim, add-one, arith}
 use Rattle.std.proofs.lemmas.List.{get_or-set_same, get_or-set_other}
-use Rattle.std.proofs.lemmas.Bool.{cases_eq, cases_lt, cases_Bool, cond-true, cond-false, eq-eqb, ne_eqb}
+use Rattle.std.proofs.lemmas.Bool.{cases_eq, cases_Bool, cond-true, cond-false, eq-eqb, ne_eqb}
 use Rattle.page.specs.Headers.{count_of}
 use Rattle.page.specs.LinePointers.{line_pointer_at, pointer_at}
 use Rattle.page.specs.Slots.{Slot, slot_of, slot_at, view_of}
@@ -18,7 +18,7 @@ use Rattle.page_prune.specs.Chains.{walk, start_of, chain_of, member, any_dead, 
 use Rattle.page_prune.specs.Pruned.{Prunable, leads_to, root_outcome, heap_only_outcome, outcome, outcome_in}
 use Rattle.page_prune.specs.Marking.{marked}
 use Rattle.page_prune.specs.declared.outcomes.Outcome.{Outcome}
-use Rattle.page_prune.specs.declared.outcomes.Outcome.TheVariants.{Stays, Freed, MadeDead, Redirected}
+use Rattle.page_prune.specs.declared.outcomes.Outcome.TheVariants.{Stays, MadeDead, Redirected}
 use Rattle.page_prune.proofs.Names.{Named, link_none, link_small}
 use Rattle.page_prune.proofs.Walks.{chain_none, none_lost, some_lost, cut}
 use Rattle.page_prune.proofs.Left.{chain_ends, start_small}

@@ -1,24 +1,21 @@
 -- Line pointers that lose their versions.
-use Rattle.std.proofs.Common.{◌≡◌, ℕ, zero, suc, ◌+◌, ◌-◌, ◌*◌, ◌/◌, ◌%◌, ◌<◌, ◌≤◌, min, Bool, true, false, ◌&&◌, ◌||◌, ◌≢◌, ◌⊎◌, List, length, get_or, sym, refl, ap, ◌∙◌, subst, inl, inr, ⊎_elim, arith}
+use Rattle.std.proofs.Common.{◌≡◌, ℕ, zero, suc, ◌+◌, ◌-◌, ◌*◌, ◌/◌, ◌%◌, ◌<◌, ◌≤◌, min, true, ◌≢◌, ◌⊎◌, List, length, sym, refl, ap, ◌∙◌, inl, inr, ⊎_elim, arith}
 use Rattle.std.proofs.lemmas.Bool.{cases_lt, cases_eq}
-use Rattle.page.specs.Bytes.{get16, get32, put32}
+use Rattle.page.specs.Bytes.{get16, put32}
 use Rattle.page.specs.Headers.{header_of, count_of}
 use Rattle.page.specs.LinePointers.{line_pointer_of, line_pointer_at, pointer_of, pointer_at, state_of, word_at, word_of}
-use Rattle.page.specs.Slots.{Slot, slot_of, slot_no, view_of}
+use Rattle.page.specs.Slots.{Slot, slot_of, slot_no}
 use Rattle.page.specs.declared.kinds.Kind.{Kind}
-use Rattle.page.specs.declared.line_pointers.State.{State}
 use Rattle.page.specs.declared.line_pointers.State.TheVariants as state
-use Rattle.page.specs.declared.line_pointers.LinePointer.{LinePointer}
 use Rattle.page.specs.declared.line_pointers.Pointer.{Pointer}
 use Rattle.page.specs.declared.line_pointers.Pointer.TheVariants.{Unused, Normal, Redirect, Dead}
 use Rattle.page_check.specs.Rules.{apart}
 use Rattle.page_check.specs.Lawful.{own_holds}
-use Rattle.page_check.specs.Marking.{LiesIn}
 use Rattle.page_check.proofs.Slots.{slot_no_in, slot_no_past}
 use Rattle.page_laws.specs.Keeps.{HeaderKeeps}
 use Rattle.page_laws.specs.Windows.{Same, SameOf}
-use Rattle.page_laws.proofs.Windows.{same_put32, length-put32, get16_same, get32_same, get32-put32, line_pointer_at_same}
-use Rattle.page_laws.proofs.Own.{VersionKeeps, own_from, slot_same, apart_sym}
+use Rattle.page_laws.proofs.Windows.{same_put32, length-put32, get16_same, get32-put32, line_pointer_at_same}
+use Rattle.page_laws.proofs.Own.{own_from, slot_same, apart_sym}
 use Rattle.page_compact.proofs.Sound.{Sound, PointerKeeps, lower_above, keeps_at, lies_at, own_same}
 use Rattle.page_prune.specs.Pruned.{repointed, repoint_to, slot_after}
 use Rattle.page_prune.specs.declared.outcomes.Outcome.{Outcome}

@@ -1,11 +1,11 @@
 -- The loops along a chain, in plain variables.
-use Rattle.std.proofs.Common.{◌≡◌, ℕ, zero, suc, ◌+◌, ◌-◌, ◌<◌, ◌≤◌, Bool, true, false, cond, ◌||◌, eqb, ◌≢◌, ◌⊎◌, List, [], ◌∷◌, length, get_or, set, sym, refl, ap, ◌∙◌, ⊎_elim, add-one, arith}
+use Rattle.std.proofs.Common.{◌≡◌, ℕ, zero, suc, ◌+◌, ◌-◌, ◌<◌, ◌≤◌, Bool, true, false, cond, ◌||◌, eqb, List, [], ◌∷◌, length, get_or, set, sym, refl, ap, ◌∙◌, ⊎_elim, add-one, arith}
 use Rattle.std.proofs.lemmas.List.{get_or-set_same, get_or-set_other, length-set}
 use Rattle.std.proofs.lemmas.Bool.{cases_eq, cases_Bool, cond-true, cond-false, eq-eqb, ne_eqb, or_right, or_left}
 use Rattle.page_laws.specs.Chains.{chain}
 use Rattle.page_prune.specs.Chains.{walk, member, any_dead, lost}
 use Rattle.page_prune.specs.Marking.{marked}
-use Rattle.page_prune.proofs.Walks.{chain_none, none_lost}
+use Rattle.page_prune.proofs.Walks.{none_lost}
 
 pub chain_more : (nx : ℕ → ℕ) (f a : ℕ) → (a ≡ 0 → ⊥) → chain nx (suc f) a ≡ a ∷ chain nx f (nx a)
 chain_more nx f zero n = absurd (n refl)

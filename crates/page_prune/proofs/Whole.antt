@@ -1,9 +1,9 @@
 -- A prune of a lawful page as a whole.
-use Rattle.std.proofs.Common.{◌≡◌, ℕ, ◌+◌, ◌-◌, ◌<◌, ◌≤◌, Bool, true, false, cond, ◌⊎◌, List, length, get_or, sum_by, sym, refl, ap, ◌∙◌, subst, inl, inr, ⊎_elim, arith}
+use Rattle.std.proofs.Common.{◌≡◌, ℕ, ◌+◌, ◌-◌, ◌<◌, ◌≤◌, Bool, true, false, List, length, get_or, sum_by, sym, refl, ap, ◌∙◌, subst, ⊎_elim, arith}
 use Rattle.std.proofs.lemmas.List.{ext_get_or}
 use Rattle.std.proofs.lemmas.List.FromFn.{get_or-map-range_with_len}
 use Rattle.std.proofs.lemmas.Bool.{both_ways, cond-true, cond-false, cases_Bool}
-use Rattle.page.specs.Headers.{header_of, count_of}
+use Rattle.page.specs.Headers.{count_of}
 use Rattle.page.specs.Slots.{Slot, slot_no, slot_at, view_of}
 use Rattle.page.specs.Slots.Slot.{unused}
 use Rattle.page.specs.declared.kinds.Kind.{Kind}
@@ -11,7 +11,6 @@ use Rattle.page_check.specs.Rules.{is_heap_only, name_of, leads_well, other_name
 use Rattle.page_check.specs.Lawful.{is_lawful}
 use Rattle.page_check.proofs.All.{any_to_hit, any_to_none}
 use Rattle.page_laws.specs.Keeps.{Keeps}
-use Rattle.page_laws.specs.Windows.{Same}
 use Rattle.page_laws.proofs.Facts.{lawful_tells, lawful_from}
 use Rattle.page_laws.proofs.Views.{view_at, view_fun, view_get, view_length}
 use Rattle.page_compact.specs.Compaction.{compacted}
@@ -26,7 +25,6 @@ use Rattle.page_prune.specs.declared.outcomes.Outcome.{Outcome}
 use Rattle.page_prune.specs.declared.outcomes.Outcome.TheVariants.{Stays, Freed, MadeDead, Redirected}
 use Rattle.page_prune.proofs.Names.{Named, pruned_named}
 use Rattle.page_prune.proofs.Repoint.{TurnedTo, turned_to}
-use Rattle.page_prune.proofs.Walks.{clash}
 use Rattle.page_prune.proofs.Left.{chain_ends, pruned_long, pruned_at_lem, pruning, outcome_small, none_dead_left, shows, root_unused}
 
 -- The rules between pointers, of the page and of its list of slots.

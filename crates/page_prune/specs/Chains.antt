@@ -1,6 +1,6 @@
 -- The chains of a page, and what a prune takes from them. What a version links on to is a parameter here, and so is which
 -- versions are dead: nx m is the number of the version that m links on to, or 0.
-use Rattle.std.specs.Prelude.{◌≡◌, ℕ, zero, suc, ◌+◌, Bool, true, false, cond, ◌||◌, ◌⊎◌, List, [], ◌∷◌, length, ◌==◌}
+use Rattle.std.specs.Prelude.{◌≡◌, ℕ, zero, suc, ◌+◌, Bool, false, cond, ◌||◌, ◌⊎◌, List, [], ◌∷◌, length, ◌==◌}
 use Rattle.page.specs.Slots.{Slot, slot_at}
 use Rattle.page.specs.Slots.Slot.{unused, dead, redirect, holds}
 use Rattle.page_check.specs.All.{any_to}

@@ -1,9 +1,9 @@
 -- Two pages that differ in one line pointer and its version alone.
-use Rattle.std.proofs.Common.{◌≡◌, ℕ, ◌+◌, ◌-◌, ◌*◌, ◌<◌, ◌≤◌, Bool, true, false, ◌≢◌, ◌⊎◌, List, length, sym, refl, ap, ◌∙◌, inl, inr, ⊎_elim, arith}
+use Rattle.std.proofs.Common.{◌≡◌, ℕ, ◌<◌, ◌≤◌, true, ◌≢◌, List, length, sym, refl, ap, ◌∙◌, ⊎_elim, arith}
 use Rattle.std.proofs.lemmas.Bool.{cases_lt, cases_eq}
 use Rattle.page.specs.Headers.{header_of, count_of}
 use Rattle.page.specs.LinePointers.{line_pointer_at, meaning_of, pointer_of, pointer_at}
-use Rattle.page.specs.Slots.{Slot, slot_of, slot_no}
+use Rattle.page.specs.Slots.{slot_of, slot_no}
 use Rattle.page.specs.declared.kinds.Kind.{Kind}
 use Rattle.page.specs.declared.line_pointers.State.{State}
 use Rattle.page.specs.declared.line_pointers.State.TheVariants as state
@@ -12,11 +12,11 @@ use Rattle.page.specs.declared.line_pointers.Pointer.{Pointer}
 use Rattle.page.specs.declared.line_pointers.Pointer.TheVariants.{Unused, Normal, Redirect, Dead}
 use Rattle.page_check.specs.Rules.{apart}
 use Rattle.page_check.specs.Lawful.{own_holds}
-use Rattle.page_check.specs.Marking.{Lies, LiesIn}
+use Rattle.page_check.specs.Marking.{LiesIn}
 use Rattle.page_check.proofs.Slots.{slot_no_in, slot_no_past}
 use Rattle.page_laws.specs.Keeps.{HeaderKeeps, Keeps}
-use Rattle.page_laws.specs.Windows.{Same, SameOf}
-use Rattle.page_laws.proofs.Own.{VersionKeeps, OwnKeeps, own_tells, own_from, slot_same, version_same, apart_sym}
+use Rattle.page_laws.specs.Windows.{SameOf}
+use Rattle.page_laws.proofs.Own.{VersionKeeps, own_tells, own_from, slot_same, version_same, apart_sym}
 use Rattle.page_write_laws.proofs.Names.{Names}
 
 -- what the rules of a line pointer say of its meaning

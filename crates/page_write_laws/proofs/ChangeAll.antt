@@ -1,11 +1,11 @@
 -- All versions of a page are changed, one pointer after the other.
-use Rattle.std.proofs.Common.{◌≡◌, ℕ, zero, suc, ◌+◌, ◌-◌, ◌<◌, ◌≤◌, cond, List, map, length, get_or, set, sym, refl, ap, ◌∙◌, ⊎_elim, arith}
+use Rattle.std.proofs.Common.{◌≡◌, ℕ, zero, suc, ◌+◌, ◌-◌, ◌<◌, ◌≤◌, List, map, length, get_or, set, sym, refl, ap, ◌∙◌, ⊎_elim, arith}
 use Rattle.std.proofs.lemmas.List.{get_or-set_same, get_or-set_other, ext_get_or, length-map, get_or-map}
 use Rattle.std.proofs.lemmas.Bool.{cases_lt}
 use Rattle.page.specs.Headers.{count_of}
 use Rattle.page.specs.LinePointers.{pointer_at}
-use Rattle.page.specs.Slots.{Version, Slot, slot_of, slot_no, slot_at, view_of}
-use Rattle.page.specs.Slots.Slot.{unused, dead, redirect, holds}
+use Rattle.page.specs.Slots.{Version, Slot, slot_of, slot_at, view_of}
+use Rattle.page.specs.Slots.Slot.{unused, holds}
 use Rattle.page.specs.declared.kinds.Kind.{Kind}
 use Rattle.page.specs.declared.line_pointers.Pointer.{Pointer}
 use Rattle.page.specs.declared.line_pointers.Pointer.TheVariants.{Unused, Normal, Redirect, Dead}
@@ -14,7 +14,7 @@ use Rattle.page_laws.specs.Keeps.{Keeps}
 use Rattle.page_laws.proofs.Views.{view_get, view_length, slot_at_one}
 use Rattle.page_write.specs.Changing.{change_at, change_version, change_to}
 use Rattle.page_write_laws.specs.Slots.{on_version, Milder}
-use Rattle.page_write_laws.proofs.Changes.{Changed, changed}
+use Rattle.page_write_laws.proofs.Changes.{changed}
 use Rattle.page_write_laws.proofs.Naming.{milder_alone}
 
 -- the first n versions are changed

@@ -1,11 +1,11 @@
 -- A version of a lawful page is replaced by another.
-use Rattle.std.proofs.Common.{◌≡◌, ℕ, zero, suc, ◌+◌, ◌-◌, ◌*◌, ◌<◌, ◌≤◌, Bool, true, false, cond, ◌&&◌, ◌||◌, eqb, leb, ◌≢◌, ◌⊎◌, List, map, length, get_or, set, is_some, sym, refl, ap, ◌∙◌, inl, inr, ⊎_elim, arith}
+use Rattle.std.proofs.Common.{◌≡◌, ℕ, ◌+◌, ◌-◌, ◌*◌, ◌<◌, ◌≤◌, true, leb, ◌≢◌, ◌⊎◌, List, length, get_or, set, is_some, sym, refl, ap, ◌∙◌, inl, inr, ⊎_elim, arith}
 use Rattle.std.proofs.lemmas.Bool.{cases_lt, cases_eq, cond-true, le-leb}
 use Rattle.page.specs.Headers.{header_of, count_of, pointer_count}
 use Rattle.page.specs.Kinds.{body_len, fits}
 use Rattle.page.specs.LinePointers.{line_pointer_at, meaning_of, pointer_of, pointer_at}
 use Rattle.page.specs.Slots.{Version, Slot, slot_of, slot_no, slot_at, view_of, decoded}
-use Rattle.page.specs.Slots.Slot.{unused, dead, redirect, holds}
+use Rattle.page.specs.Slots.Slot.{unused, holds}
 use Rattle.page.specs.Versions.{header_at, row_of}
 use Rattle.page.specs.declared.headers.PageHeader.{PageHeader}
 use Rattle.page.specs.declared.kinds.Kind.{Kind}
@@ -19,8 +19,8 @@ use Rattle.page_check.specs.All.{all_of}
 use Rattle.page_check.specs.Rules.{name_of, leads_well, other_name, apart, version_holds, version_rules}
 use Rattle.page_check.specs.Lawful.{own_holds}
 use Rattle.page_check.proofs.Slots.{slot_no_in, slot_no_past}
-use Rattle.page_laws.specs.Keeps.{HeaderKeeps, Keeps}
-use Rattle.page_laws.specs.Windows.{Same, SameOf}
+use Rattle.page_laws.specs.Keeps.{Keeps}
+use Rattle.page_laws.specs.Windows.{Same}
 use Rattle.page_laws.proofs.Own.{VersionKeeps, own_from, others_same, apart_two}
 use Rattle.page_laws.proofs.Views.{view_at, view_fun, view_length, view_set}
 use Rattle.page_laws.proofs.Windows.{get16_same, get32_same, line_pointer_at_same, between_same}
@@ -28,8 +28,8 @@ use Rattle.page_write.specs.Fields.{encoded}
 use Rattle.page_write.specs.Changing.{rewrite, change_at, change_version}
 use Rattle.page_write_laws.specs.Slots.{NamesAlone, Replaces}
 use Rattle.page_write_laws.proofs.Names.{Names, Alike, alike_same, alike_holds, name_alike, leads_alike, names_change}
-use Rattle.page_write_laws.proofs.Beside.{Beside, VersionOf, keeps_version, keeps_names, slot_beside, keeps_beside}
-use Rattle.page_write_laws.proofs.Encoded.{HeadKeeps, head_tells, head_from, decoded_is, word_small, word2_small}
+use Rattle.page_write_laws.proofs.Beside.{Beside, keeps_version, keeps_names, slot_beside, keeps_beside}
+use Rattle.page_write_laws.proofs.Encoded.{head_tells, head_from, decoded_is, word_small, word2_small}
 use Rattle.page_write_laws.proofs.Rewriting.{Small, rewritten, length_rewrite, same_rewrite, rewrite_reads}
 
 pub header_of_same : (p q : List ℕ) → Same 0 24 p q → header_of p ≡ header_of q

@@ -1,17 +1,16 @@
 -- An empty page, and pages that are filled from empty.
-use Rattle.std.proofs.Common.{◌≡◌, ℕ, ◌+◌, ◌-◌, ◌*◌, ◌/◌, ◌<◌, ◌≤◌, min, max, Bool, true, false, cond, ◌&&◌, ltb, leb, ◌⊎◌, List, [], ◌∷◌, length, get_or, replicate, sym, refl, ap, ◌∙◌, inl, inr, ⊎_elim, add-mul, le-div_iff_mul-le, mul-add, arith}
+use Rattle.std.proofs.Common.{◌≡◌, ℕ, ◌+◌, ◌-◌, ◌*◌, ◌/◌, ◌<◌, ◌≤◌, true, false, ◌&&◌, ltb, leb, List, [], ◌∷◌, length, get_or, replicate, sym, ap, ◌∙◌, inl, ⊎_elim, add-mul, le-div_iff_mul-le, mul-add, arith}
 use Rattle.std.proofs.lemmas.List.{length-replicate, get_or-replicate, nil_from_length}
 use Rattle.std.proofs.lemmas.Bool.{and_from, and_left, and_right, cases_lt, cond-false, le-leb, lt-leb, lt-ltb, le-ltb}
 use Rattle.page.specs.Bytes.{get16, put16}
 use Rattle.page.specs.Headers.{header_of, count_of}
-use Rattle.page.specs.LinePointers.{line_pointer_at, pointer_of, pointer_at}
+use Rattle.page.specs.LinePointers.{pointer_of, pointer_at}
 use Rattle.page.specs.Slots.{Version, view_of}
 use Rattle.page.specs.declared.kinds.Kind.{Kind}
-use Rattle.page.specs.declared.line_pointers.Pointer.{Pointer}
 use Rattle.page_laws.specs.Keeps.{HeaderKeeps, Keeps}
 use Rattle.page_laws.proofs.Views.{view_length}
 use Rattle.page_laws.proofs.Windows.{same_put16, get16_same, get16-put16, length-put16}
-use Rattle.page_room.specs.Room.{up8, is_unused, least_to, free_pointer, has_unused, room_of, takes}
+use Rattle.page_room.specs.Room.{up8, is_unused, free_pointer, has_unused, room_of, takes}
 use Rattle.page_write.specs.Fields.{encoded}
 use Rattle.page_write.specs.Placing.{place_of, lower_after, put_version}
 use Rattle.page_write.specs.Empty.{formatted, empty_page}

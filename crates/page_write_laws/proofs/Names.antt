@@ -1,5 +1,5 @@
 -- The rules on names among the slots of a page, and how a change of one slot bears on them.
-use Rattle.std.proofs.Common.{◌≡◌, ℕ, ◌+◌, ◌-◌, ◌<◌, ◌≤◌, Bool, true, false, cond, not, ◌&&◌, ◌||◌, eqb, leb, ◌≢◌, ◌⊎◌, sym, refl, ap, ◌∙◌, inl, inr, ⊎_elim, arith}
+use Rattle.std.proofs.Common.{◌≡◌, ℕ, ◌<◌, ◌≤◌, Bool, true, false, cond, not, ◌&&◌, eqb, ◌≢◌, sym, refl, ap, ◌∙◌, ⊎_elim, arith}
 use Rattle.std.proofs.lemmas.Bool.{and_left, and_right, and_cases, or_cases, or_left, or_right, not-true, not_from_false, both_ways, eq-eqb, ne_eqb, eqb-false, cases_eq, cases_lt, cases_Bool, cond-false}
 use Rattle.page.specs.Slots.{Version, Slot}
 use Rattle.page.specs.Slots.Slot.{unused, dead, redirect, holds}

@@ -1,9 +1,9 @@
 -- When a version that replaces another names alone.
-use Rattle.std.proofs.Common.{◌≡◌, ℕ, ◌+◌, ◌-◌, ◌<◌, ◌≤◌, Bool, true, false, cond, not, ◌&&◌, ◌||◌, eqb, leb, ◌≢◌, ◌⊎◌, List, length, get_or, sym, refl, ap, ◌∙◌, subst, inl, inr, ⊎_elim, arith}
+use Rattle.std.proofs.Common.{◌≡◌, ℕ, ◌+◌, ◌<◌, ◌≤◌, Bool, true, false, cond, not, ◌&&◌, eqb, leb, ◌⊎◌, List, get_or, sym, refl, ap, ◌∙◌, subst, inl, inr, ⊎_elim, arith}
 use Rattle.std.proofs.lemmas.Bool.{and_parts, or_left, or_right, le-leb, not_from_false, ne_eqb, cases_Bool, cond-true, cond-false}
-use Rattle.page.specs.Bytes.{get16, get32}
+use Rattle.page.specs.Bytes.{get16}
 use Rattle.page.specs.Headers.{count_of}
-use Rattle.page.specs.Slots.{Version, Slot, slot_no, slot_at, view_of, decoded}
+use Rattle.page.specs.Slots.{Version, Slot, slot_at, view_of, decoded}
 use Rattle.page.specs.Slots.Slot.{holds}
 use Rattle.page.specs.Versions.{header_at, row_of}
 use Rattle.page.specs.declared.kinds.Kind.{Kind}
@@ -16,8 +16,8 @@ use Rattle.page_write.specs.Fields.{removed_by}
 use Rattle.page_write_laws.specs.Slots.{NamesAlone, NoOtherNames, Replaces, Milder}
 use Rattle.page_write_laws.proofs.Names.{Names, once_two}
 use Rattle.page_write_laws.proofs.Beside.{keeps_version, keeps_names}
-use Rattle.page_write_laws.proofs.Encoded.{HeadKeeps, head_tells}
-use Rattle.page_write_laws.proofs.Changes.{Held, held}
+use Rattle.page_write_laws.proofs.Encoded.{head_tells}
+use Rattle.page_write_laws.proofs.Changes.{held}
 
 -- A milder version.
 

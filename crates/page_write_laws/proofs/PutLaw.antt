@@ -1,12 +1,12 @@
 -- A new version on a lawful page.
-use Rattle.std.proofs.Common.{◌≡◌, ℕ, suc, ◌+◌, ◌-◌, ◌*◌, ◌/◌, ◌<◌, ◌≤◌, max, Bool, true, false, cond, ◌&&◌, ◌||◌, eqb, leb, ◌≢◌, ◌⊎◌, List, [], ◌∷◌, ◌++◌, length, get_or, set, is_some, Some, None, Option, sym, refl, ap, ◌∙◌, subst, inl, inr, ⊎_elim, arith}
+use Rattle.std.proofs.Common.{◌≡◌, ℕ, suc, ◌+◌, ◌-◌, ◌*◌, ◌/◌, ◌<◌, ◌≤◌, max, Bool, true, false, ◌&&◌, ◌||◌, eqb, leb, ◌≢◌, List, [], ◌∷◌, ◌++◌, length, get_or, set, is_some, Some, None, Option, sym, refl, ap, ◌∙◌, ⊎_elim, arith}
 use Rattle.std.proofs.lemmas.List.Edits.{get_or-between}
 use Rattle.std.proofs.lemmas.Bool.{or_left, le-leb, lt-leb, both_ways, cases_lt, cases_eq, cond-true, cond-false}
 use Rattle.page.specs.Headers.{header_of, count_of}
 use Rattle.page.specs.Kinds.{body_len, fits, row_fits}
 use Rattle.page.specs.LinePointers.{line_pointer_at, pointer_at}
-use Rattle.page.specs.Slots.{Version, Slot, slot_of, slot_no, slot_at, view_of, decoded}
-use Rattle.page.specs.Slots.Slot.{unused, dead, redirect, holds}
+use Rattle.page.specs.Slots.{Version, Slot, slot_of, slot_no, view_of, decoded}
+use Rattle.page.specs.Slots.Slot.{unused, holds}
 use Rattle.page.specs.Versions.{header_at, row_of}
 use Rattle.page.specs.declared.kinds.Kind.{Kind}
 use Rattle.page.specs.declared.line_pointers.State.TheVariants as state
@@ -20,7 +20,7 @@ use Rattle.page_laws.specs.Keeps.{Keeps}
 use Rattle.page_laws.specs.Windows.{Same, SameOf}
 use Rattle.page_laws.proofs.Own.{VersionKeeps}
 use Rattle.page_laws.proofs.Views.{view_get, view_length, view_fun, view_set, view_push}
-use Rattle.page_room.specs.Room.{up8, least_to, is_unused, free_pointer, takes}
+use Rattle.page_room.specs.Room.{least_to, is_unused, free_pointer}
 use Rattle.page_write.specs.Fields.{encoded}
 use Rattle.page_write.specs.Placing.{place_of, lower_after, put_version}
 use Rattle.page_write_laws.specs.Slots.{is_free, free_slot, put_slot, awaits, NoneAwaits}
@@ -30,7 +30,7 @@ use Rattle.page_write_laws.proofs.Beside.{Beside, VersionOf, keeps_version, keep
 use Rattle.page_write_laws.proofs.Changes.{own_normal}
 use Rattle.page_write_laws.proofs.Encoded.{head_from, decoded_is, word_small, word2_small}
 use Rattle.page_write_laws.proofs.Rewriting.{Small}
-use Rattle.page_write_laws.proofs.Putting.{SpotOn, takes_spot, put_long, put_header, put_row, put_upper, put_count, put_head, put_pointer, pointer_stays, above_stays}
+use Rattle.page_write_laws.proofs.Putting.{SpotOn, put_long, put_header, put_row, put_upper, put_count, put_head, put_pointer, pointer_stays, above_stays}
 
 -- The lowest unused pointer is that of the lowest unused slot.
 

@@ -1,17 +1,16 @@
 -- A version is put on a page: where there is room, what is read afterwards, and what stays.
-use Rattle.std.proofs.Common.{◌≡◌, ℕ, ◌+◌, ◌-◌, ◌*◌, ◌/◌, ◌%◌, ◌<◌, ◌≤◌, min, max, Bool, true, false, cond, ◌&&◌, ltb, leb, ◌≢◌, ◌⊎◌, List, length, get_or, sym, refl, ap, ◌∙◌, inl, inr, ⊎_elim, arith}
+use Rattle.std.proofs.Common.{◌≡◌, ℕ, ◌+◌, ◌-◌, ◌*◌, ◌/◌, ◌%◌, ◌<◌, ◌≤◌, min, max, true, ◌&&◌, ltb, leb, ◌≢◌, ◌⊎◌, List, length, sym, refl, ap, ◌∙◌, inl, inr, ⊎_elim, arith}
 use Rattle.std.proofs.lemmas.Bool.{and_parts, cases_lt, cond-true, cond-false, leb-true, ltb-true, le-leb, lt-leb}
-use Rattle.page.specs.Bytes.{get16, get32, put16, put32}
+use Rattle.page.specs.Bytes.{get16, put16}
 use Rattle.page.specs.Headers.{header_of, count_of}
 use Rattle.page.specs.LinePointers.{line_pointer_of, line_pointer_at, pointer_of, pointer_at, word_of}
-use Rattle.page.specs.Slots.{Version}
 use Rattle.page.specs.Versions.{header_at, row_of}
 use Rattle.page.specs.declared.line_pointers.Pointer.TheVariants.{Normal}
 use Rattle.page.specs.declared.versions.VersionHeader.{VersionHeader}
 use Rattle.page_laws.specs.Keeps.{HeaderKeeps}
 use Rattle.page_laws.specs.Windows.{Same}
 use Rattle.page_laws.proofs.Windows.{same_put16, same_put32, get16_same, get16-put16, get32-put32, header_at_same, between_same, line_pointer_at_same, length-put16, length-put32}
-use Rattle.page_room.specs.Room.{up8, is_unused, least_to, free_pointer, has_unused, room_of, takes}
+use Rattle.page_room.specs.Room.{up8, is_unused, free_pointer, has_unused, room_of, takes}
 use Rattle.page_write.specs.Placing.{write_version, place_of, lower_after, put_at}
 use Rattle.page_room.proofs.Least.{least_le}
 use Rattle.page_write_laws.proofs.Rewriting.{Small}

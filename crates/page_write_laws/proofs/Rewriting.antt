@@ -1,12 +1,11 @@
 -- What is read of a header that was rewritten.
-use Rattle.std.proofs.Common.{◌≡◌, ℕ, ◌+◌, ◌*◌, ◌/◌, ◌%◌, ◌<◌, ◌≤◌, ◌⊎◌, List, length, get_or, sym, refl, ap, ◌∙◌, inl, inr, ⊎_elim, arith}
+use Rattle.std.proofs.Common.{◌≡◌, ℕ, ◌+◌, ◌*◌, ◌/◌, ◌%◌, ◌<◌, ◌≤◌, ◌⊎◌, List, length, get_or, ◌∙◌, inl, inr, ⊎_elim, arith}
 use Rattle.std.proofs.lemmas.List.{length-set}
 use Rattle.page.specs.Bytes.{get16, get32, put16, put32}
 use Rattle.page.specs.Versions.{header_at}
-use Rattle.page.specs.declared.versions.Address.{Address}
 use Rattle.page.specs.declared.versions.VersionHeader.{VersionHeader}
 use Rattle.page_laws.specs.Windows.{Same}
-use Rattle.page_laws.proofs.Windows.{same_put16, same_put32, same_part, get16_same, get32_same, get16-put16, get32-put32, length-put16, length-put32}
+use Rattle.page_laws.proofs.Windows.{same_put16, same_put32, get16_same, get32_same, get16-put16, get32-put32, length-put16, length-put32}
 use Rattle.page_write.specs.Changing.{rewrite}
 
 -- the fields of a header that may change fit their places

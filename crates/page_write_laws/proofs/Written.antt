@@ -1,21 +1,19 @@
 -- What is read of a version that was written, and of a page that it was put on.
-use Rattle.std.proofs.Common.{◌≡◌, ℕ, ◌+◌, ◌-◌, ◌*◌, ◌/◌, ◌%◌, ◌<◌, ◌≤◌, ◌⊎◌, List, length, get_or, set, replicate, sym, refl, ap, ◌∙◌, inl, inr, ⊎_elim, arith}
+use Rattle.std.proofs.Common.{◌≡◌, ℕ, ◌+◌, ◌-◌, ◌*◌, ◌/◌, ◌%◌, ◌<◌, ◌≤◌, ◌⊎◌, List, length, set, replicate, sym, refl, ap, ◌∙◌, inl, inr, ⊎_elim, arith}
 use borrow.Rule.Slice.PartMut.{put_mid}
-use Rattle.std.specs.List.{between}
 use Rattle.std.proofs.lemmas.List.{length-set, get_or-set_same, length-replicate}
 use Rattle.std.proofs.lemmas.Slice.{between-put_mid}
-use Rattle.page.specs.Bytes.{get16, get32, put16, put32}
+use Rattle.page.specs.Bytes.{get16, put32}
 use Rattle.page.specs.LinePointers.{line_pointer_of, pointer_of, word_of}
 use Rattle.page.specs.Versions.{header_at, row_of}
 use Rattle.page.specs.declared.line_pointers.Pointer.TheVariants.{Normal}
-use Rattle.page.specs.declared.versions.Address.{Address}
 use Rattle.page.specs.declared.versions.VersionHeader.{VersionHeader}
 use Rattle.page_laws.specs.Windows.{Same}
-use Rattle.page_laws.proofs.Windows.{same_put32, same_set, same_put_mid, get32_same, get16_same, get32-put32, header_at_same, between_same, length-put16, length-put32, length-put_mid}
+use Rattle.page_laws.proofs.Windows.{same_put32, same_set, same_put_mid, get32_same, get16_same, get32-put32, header_at_same, between_same, length-put32, length-put_mid}
 use Rattle.page_room.specs.Room.{up8}
 use Rattle.page_write.specs.Changing.{rewrite}
-use Rattle.page_write.specs.Placing.{write_header, write_row, write_version}
-use Rattle.page_write_laws.proofs.Rewriting.{Small, rewritten, length_rewrite, same_rewrite, rewrite_reads}
+use Rattle.page_write.specs.Placing.{write_header, write_version}
+use Rattle.page_write_laws.proofs.Rewriting.{Small, length_rewrite, same_rewrite, rewrite_reads}
 
 -- the pointer of a version is read as it is written
 pub decode_normal : (o n : ℕ) → o < 32768 → n < 32768 → pointer_of (line_pointer_of (word_of (Normal o n))) ≡ Normal o n

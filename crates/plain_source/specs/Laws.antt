@@ -1,5 +1,5 @@
 -- The plain source keeps the laws of a source.
-use Rattle.std.specs.Prelude.{◌≡◌, ℕ, ◌<◌, ◌≤◌, true, false, leb}
+use Rattle.std.specs.Prelude.{◌<◌}
 use Rattle.std.proofs.Common.{subst, arith}
 use Rattle.std.proofs.lemmas.Bool.{lt-leb, cond-false}
 use Rattle.xid.specs.declared.statuses.Status.TheVariants.{Unknown}

@@ -1,6 +1,6 @@
 -- What holds of every snapshot that is taken of a lawful source.
-use Rattle.std.proofs.Common.{◌≡◌, ℕ, ◌+◌, ◌<◌, ◌≤◌, true, List, [], ◌∷◌, filter, sym, ap, ◌∙◌, subst, arith}
-use Rattle.std.specs.List.{ContainsAt as Has, AllByRecursion as All}
+use Rattle.std.proofs.Common.{◌≡◌, ℕ, ◌+◌, ◌<◌, ◌≤◌, true, List, [], ◌∷◌, filter, arith}
+use Rattle.std.specs.List.{AllByRecursion as All}
 use Rattle.std.proofs.ByRecursion.{all-has, All-weaker, kept_by_passes}
 use Rattle.xid.specs.Numbers.{distance, in_window}
 use Rattle.xid.specs.Meaning.{Meaning, Lawful}

@@ -1,5 +1,5 @@
 -- What the nearest number is, and the horizon.
-use Rattle.std.specs.Prelude.{ℕ, ◌≤◌, List, [], ◌∷◌, ◌++◌, Option}
+use Rattle.std.specs.Prelude.{ℕ, ◌≤◌, List, ◌∷◌, ◌++◌, Option}
 use Rattle.std.specs.List.{ContainsAt as Has, AllByRecursion as All}
 use Rattle.xid.specs.Numbers.{distance}
 use Rattle.snapshot.specs.Snapshots.{SnapshotData, nearest, xmins, horizon_of}

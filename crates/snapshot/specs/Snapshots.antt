@@ -1,5 +1,5 @@
 -- Snapshots, and what is running for one; the horizon.
-use Rattle.std.specs.Prelude.{◌≡◌, ℕ, ◌<◌, Bool, not, ◌&&◌, ◌||◌, List, [], ◌∷◌, ◌++◌, map, is_some, Some, None, filter, Option, nat_lt}
+use Rattle.std.specs.Prelude.{◌≡◌, ℕ, ◌<◌, Bool, not, ◌&&◌, ◌||◌, List, [], ◌∷◌, map, is_some, Some, None, filter, Option, nat_lt}
 use Rattle.std.specs.Option.{option_map}
 use Rattle.std.specs.List.{best_of, prefix_len, AllByRecursion as All}
 use Rattle.xid.specs.Numbers.{distance, precedes, in_window}

@@ -1,12 +1,12 @@
 -- What forget accepts, in words.
-use Rattle.std.proofs.Common.{◌≡◌, ℕ, suc, ◌+◌, ◌<◌, ◌≤◌, Bool, true, false, not, ◌&&◌, ◌||◌, eqb, ◌⊎◌, Decides, sym, refl, ap, ◌∙◌, inl, inr, ⊎_elim, arith}
+use Rattle.std.proofs.Common.{◌≡◌, ℕ, ◌<◌, true, false, not, ◌||◌, eqb, Decides, sym, refl, ap, ◌∙◌, ⊎_elim, arith}
 use Rattle.std.proofs.lemmas.Bool.{cases_Bool, not-true, not_from_false, both_ways}
 use Rattle.std.proofs.lemmas.Bool.Decides.{Decides-below_and, Decides-and, Decides-or, Decides-eqb, Decides-like}
 use Rattle.xid.specs.declared.statuses.Status.{Status}
 use Rattle.xid.specs.declared.statuses.Status.TheVariants.{Open, Committed, Aborted, Unknown}
 use Rattle.xid.specs.Numbers.{distance, number_at, in_window}
 use Rattle.xid.specs.Statuses.{is_open}
-use Rattle.xid.specs.Meaning.{Meaning, none_open, forgettable}
+use Rattle.xid.specs.Meaning.{none_open}
 use Rattle.xid.specs.Laws.{ForgetRule}
 use Rattle.xid.proofs.Distances.{distance_below, number_at-distance, distance-number_at, number_at_high}
 

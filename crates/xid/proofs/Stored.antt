@@ -1,5 +1,5 @@
 -- A source that stores a status for each number: what its calls have to leave stored, for it to mean what they promise.
-use Rattle.std.proofs.Common.{◌≡◌, ℕ, ◌+◌, ◌<◌, ◌≤◌, Bool, true, false, cond, ◌&&◌, ◌||◌, eqb, ◌⊎◌, sym, refl, ap, ◌∙◌, inl, inr, ⊎_elim, arith}
+use Rattle.std.proofs.Common.{◌≡◌, ℕ, ◌<◌, ◌≤◌, Bool, true, false, cond, ◌||◌, eqb, sym, refl, ap, ◌∙◌, inl, inr, ⊎_elim, arith}
 use mathlib.Core.Path.{fun_ext}
 use Rattle.std.proofs.lemmas.Bool.{cases_eq, cases_Bool, ne_eqb, eq-eqb, eqb-true, cond-true, cond-false, both_ways, and_parts, or_cases}
 use Rattle.xid.specs.declared.statuses.Status.{Status}
@@ -8,7 +8,7 @@ use Rattle.xid.specs.declared.statuses.End.{End}
 use Rattle.xid.specs.declared.statuses.End.TheVariants.{Commit, Abort}
 use Rattle.xid.specs.Numbers.{distance, successor, in_window}
 use Rattle.xid.specs.Statuses.{end_status, is_open, is_known}
-use Rattle.xid.specs.Meaning.{Meaning, Known, windowed, meaning_by, with_status, none_open, forgettable, after_open, after_close, after_forget}
+use Rattle.xid.specs.Meaning.{Known, windowed, meaning_by, with_status, none_open, forgettable, after_open, after_close, after_forget}
 use Rattle.xid.proofs.Windows.{window_within, window_takes, window_more, window_from, reach}
 
 -- where the window ends the same, two stores that agree in it say the same

@@ -1,9 +1,9 @@
 -- The window of a source, as it takes numbers in and gives them up.
-use Rattle.std.proofs.Common.{◌≡◌, ℕ, ◌+◌, ◌<◌, ◌≤◌, Bool, true, false, ltb, leb, ◌⊎◌, sym, ◌∙◌, subst, inl, inr, ⊎_elim, arith}
+use Rattle.std.proofs.Common.{◌≡◌, ℕ, ◌+◌, ◌<◌, ◌≤◌, true, false, ◌⊎◌, sym, ◌∙◌, subst, ⊎_elim, arith}
 use Rattle.std.proofs.lemmas.Bool.{cases_Bool}
 use Rattle.std.proofs.lemmas.Bool.Decides.{nat_tests}
 use Rattle.xid.specs.Numbers.{distance, successor, in_window}
-use Rattle.xid.proofs.Distances.{distance_below, distance_by, distance_apart, successor_steps}
+use Rattle.xid.proofs.Distances.{distance_below, distance_by, successor_steps}
 
 -- what a number of the window is
 pub record Within (o n x : ℕ) : Type 0 where

@@ -1,5 +1,5 @@
 -- Laws of numbers, codes and sources, as the contracts of `laws` state them.
-use Rattle.std.specs.Prelude.{◌≡◌, ℕ, ◌+◌, ◌<◌, ◌≤◌, Bool, true, false, cond, ◌⊎◌, Decides, ◌==◌, ◌≢◌, nat_lt}
+use Rattle.std.specs.Prelude.{◌≡◌, ℕ, ◌+◌, ◌<◌, ◌≤◌, true, false, cond, ◌⊎◌, Decides, ◌==◌, ◌≢◌, nat_lt}
 use Rattle.xid.specs.declared.statuses.Status.{Status}
 use Rattle.xid.specs.declared.statuses.Status.TheVariants.{Open}
 use Rattle.xid.specs.Numbers.{distance, precedes, successor, in_window}

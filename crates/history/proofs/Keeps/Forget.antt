@@ -1,10 +1,6 @@
 -- Forget keeps the invariant: no page needs a number before the cutoff.
-use Rattle.std.proofs.Common.{◌≡◌, ℕ, ◌<◌, Bool, false, None, sym, ap, ◌∙◌}
-use Rattle.page.specs.Slots.{Version}
-use Rattle.page.specs.Slots.Slot.{holds}
-use Rattle.page.specs.declared.versions.Address.{Address}
+use Rattle.std.proofs.Common.{◌≡◌, ℕ, Bool, None}
 use Rattle.xid.specs.Meaning.{Lawful}
-use Rattle.heap_checks.specs.Numbers.{version_needs, still_needed}
 use Rattle.history.specs.Archive.{Archive, slot_in}
 use Rattle.history.specs.Calls.Change.{forget}
 use Rattle.history.specs.Checks.{first_failing, checks}

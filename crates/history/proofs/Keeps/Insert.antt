@@ -1,5 +1,5 @@
 -- Insert keeps the invariant.
-use Rattle.std.proofs.Common.{◌≡◌, ℕ, ◌<◌, ◌≤◌, Bool, false, List, length, None, refl, arith}
+use Rattle.std.proofs.Common.{◌≡◌, ℕ, Bool, false, List, None, refl, arith}
 use Rattle.std.proofs.lemmas.Bool.{both_ways}
 use Rattle.page_write.specs.declared.fields.Origin.TheVariants as origin
 use Rattle.history.specs.Archive.{Archive, slot_in}

@@ -1,5 +1,5 @@
 -- Update keeps the invariant, heap-only or not.
-use Rattle.std.proofs.Common.{◌≡◌, ℕ, ◌<◌, Bool, false, List, length, None, sym, refl, ap, ◌∙◌, subst, arith}
+use Rattle.std.proofs.Common.{◌≡◌, ℕ, ◌<◌, Bool, List, length, None, sym, refl, ap, ◌∙◌, subst, arith}
 use Rattle.page.specs.Slots.Slot.{unused, redirect}
 use Rattle.page.specs.declared.versions.Address.{Address}
 use Rattle.history.specs.Archive.{Archive, slot_in}

@@ -1,4 +1,4 @@
-use Rattle.std.proofs.Common.{◌≡◌, ℕ, ◌+◌, ◌*◌, ◌%◌, sym, ap, ◌∙◌, arith}
+use Rattle.std.proofs.Common.{◌≡◌, ◌+◌, ◌*◌, ◌%◌, sym, ap, ◌∙◌, arith}
 use Rattle.xid.specs.Statuses.{code_of}
 use Rattle.clog.specs.Codes.{with_code}
 use Rattle.clog.proofs.codes.with_code.Goals as goal

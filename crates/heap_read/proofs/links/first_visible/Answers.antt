@@ -1,4 +1,4 @@
-use Rattle.std.proofs.Common.{◌≡◌, ℕ, suc, ◌+◌, ◌-◌, ◌<◌, ◌≤◌, sym, refl, ap, ◌∙◌, inl, inr, arith}
+use Rattle.std.proofs.Common.{◌≡◌, ℕ, suc, ◌+◌, ◌-◌, ◌≤◌, sym, refl, ap, ◌∙◌, inl, inr, arith}
 use Rattle.page.specs.Headers.{count_of}
 use Rattle.page_check.proofs.Slots.{lies_no}
 use Rattle.snapshot.specs.Snapshots.{data_of}

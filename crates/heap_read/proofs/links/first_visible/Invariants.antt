@@ -1,4 +1,4 @@
-use Rattle.std.proofs.Common.{◌≡◌, suc, ◌≤◌}
+use Rattle.std.proofs.Common.{◌≡◌, suc}
 use Rattle.page.specs.Headers.{count_of}
 use Rattle.snapshot.specs.Snapshots.{data_of}
 use Rattle.page_laws.specs.Chains.{chain}

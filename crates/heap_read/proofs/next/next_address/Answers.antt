@@ -1,4 +1,4 @@
-use Rattle.std.proofs.Common.{◌≡◌, ℕ, ◌+◌, ◌<◌, ◌≤◌, cond, ltb, length, None, sym, refl, ap, ◌∙◌, arith}
+use Rattle.std.proofs.Common.{cond, ltb, length, None, sym, refl, ◌∙◌, arith}
 use Rattle.page_check.proofs.All.{first_below_more, first_below_hit, first_below_less}
 use Rattle.snapshot.specs.Snapshots.{data_of}
 use Rattle.heap_read.proofs.Firsts.{skip_start}

@@ -1,4 +1,4 @@
-use Rattle.std.proofs.Common.{◌≡◌, ℕ, ◌+◌, ◌<◌, ◌≤◌, sym, refl, ap, ◌∙◌, arith}
+use Rattle.std.proofs.Common.{◌≡◌, ◌+◌, ◌<◌, ◌≤◌, sym, refl, ap, ◌∙◌, arith}
 use Rattle.page.specs.Headers.{pointer_count, count_of}
 use Rattle.page.specs.Slots.{slot_no}
 use Rattle.snapshot.specs.Snapshots.{data_of}

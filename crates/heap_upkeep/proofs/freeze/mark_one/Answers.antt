@@ -1,4 +1,4 @@
-use Rattle.std.proofs.Common.{◌≡◌, ◌∙◌}
+use Rattle.std.proofs.Common.{◌∙◌}
 use Rattle.heap_upkeep.proofs.FreezeSteps.{marked_one}
 use Rattle.heap_upkeep.proofs.freeze.mark_one.Goals as goal
 

@@ -1,4 +1,4 @@
-use Rattle.std.proofs.Common.{◌≡◌, ◌∙◌, arith}
+use Rattle.std.proofs.Common.{◌∙◌, arith}
 use Rattle.xid.specs.Meaning.{Meaning}
 use Rattle.heap_upkeep.specs.Along.{one}
 use Rattle.heap_upkeep.specs.Freezing.{to_freeze, to_clear, frozen_at}

@@ -1,4 +1,4 @@
-use Rattle.std.proofs.Common.{◌≡◌, ℕ, ◌+◌, sym, refl, ap, ◌∙◌, arith, rules}
+use Rattle.std.proofs.Common.{◌∙◌, arith}
 use Rattle.heap_upkeep.proofs.HintSteps.{hinted_one, hints_counted}
 use Rattle.heap_upkeep.proofs.hint.hint_one.Goals as goal
 

@@ -1,4 +1,4 @@
-use Rattle.std.proofs.Common.{◌≡◌, ◌∙◌, arith}
+use Rattle.std.proofs.Common.{◌∙◌, arith}
 use Rattle.xid.specs.Meaning.{Meaning}
 use Rattle.heap_upkeep.specs.Hints.{hinted, bits_set}
 use Rattle.heap_upkeep.proofs.Changes.{changed_more, counted_more}

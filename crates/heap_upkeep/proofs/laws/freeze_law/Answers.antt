@@ -1,4 +1,4 @@
-use Rattle.std.proofs.Common.{◌≡◌, ℕ, List, map, sym, ap, ◌∙◌, subst}
+use Rattle.std.proofs.Common.{List, map, sym, ap, ◌∙◌, subst}
 use Rattle.page.specs.Slots.{Slot, slot_at, view_of}
 use Rattle.page_laws.proofs.Facts.{lawful_tells}
 use Rattle.page_write_laws.specs.Laws.{Becomes}

@@ -1,4 +1,4 @@
-use Rattle.std.proofs.Common.{◌≡◌, not, is_some, IfSome, Option, sym, ap, ◌∙◌, subst}
+use Rattle.std.proofs.Common.{not, is_some, IfSome, Option, sym, ap, ◌∙◌, subst}
 use Rattle.page_check.specs.Lawful.{Fails}
 use Rattle.page_check.specs.declared.rules.Broken.{Broken}
 use Rattle.page_check.proofs.Reports.{none_lawful, report_fails}

@@ -1,4 +1,4 @@
-use Rattle.std.proofs.Common.{◌≡◌, ◌+◌, sym, refl, ap, ◌∙◌, arith}
+use Rattle.std.proofs.Common.{◌+◌, sym, refl, ap, ◌∙◌, arith}
 use Rattle.page.specs.Slots.{slot_no}
 use Rattle.page.specs.Headers.{count_of}
 use Rattle.page_check.specs.Rules.{leads_well}

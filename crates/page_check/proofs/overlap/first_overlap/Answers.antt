@@ -1,7 +1,5 @@
-use Rattle.std.proofs.Common.{◌≡◌, ◌+◌, true, false, refl, ap, ◌∙◌, arith}
+use Rattle.std.proofs.Common.{false, refl, ap, ◌∙◌, arith}
 use Rattle.std.proofs.lemmas.List.{get_or-replicate, length-replicate}
-use Rattle.page.specs.LinePointers.{pointer_at}
-use Rattle.page.specs.declared.line_pointers.Pointer.{Pointer}
 use Rattle.page.specs.Headers.{count_of}
 use Rattle.page_check.specs.Marking.{cells_free, cells_taken}
 use Rattle.page_check.specs.Lawful.{page_break}

@@ -1,4 +1,3 @@
-use Rattle.std.proofs.Common.{sym, ◌∙◌}
 use Rattle.page_check.proofs.OwnRules.{own_version}
 use Rattle.page_check.proofs.own.own_break.Goals as goal
 

@@ -1,4 +1,4 @@
-use Rattle.std.proofs.Common.{◌≡◌, ℕ, sym, ap, ◌∙◌}
+use Rattle.std.proofs.Common.{ℕ, sym, ap, ◌∙◌}
 use Rattle.page_laws.specs.Chains.{chain}
 use Rattle.page_prune.specs.Pruned.{next_in, dead_in}
 use Rattle.page_prune.specs.Marking.{marked}

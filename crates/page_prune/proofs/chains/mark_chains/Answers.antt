@@ -1,12 +1,11 @@
-use Rattle.std.proofs.Common.{◌≡◌, ℕ, ◌+◌, ◌≤◌, false, List, length, sym, refl, ap, ◌∙◌, arith}
+use Rattle.std.proofs.Common.{◌≡◌, ℕ, ◌+◌, ◌≤◌, false, List, length, refl, ap, ◌∙◌, arith}
 use Rattle.std.proofs.lemmas.List.{get_or-replicate}
 use Rattle.page.specs.Headers.{count_of}
-use Rattle.page.specs.LinePointers.{pointer_at}
-use Rattle.page.specs.Slots.{slot_of, view_of}
+use Rattle.page.specs.Slots.{view_of}
 use Rattle.page_check.specs.All.{any_to}
 use Rattle.page_laws.proofs.Views.{view_length}
 use Rattle.page_laws.specs.Chains.{chain}
-use Rattle.page_prune.specs.Chains.{chain_of, start_of, member, lost}
+use Rattle.page_prune.specs.Chains.{chain_of, member, lost}
 use Rattle.page_prune.specs.Pruned.{next_in, dead_in}
 use Rattle.page_prune.proofs.Walks.{cut}
 use Rattle.page_prune.proofs.Steps.{marked_long}

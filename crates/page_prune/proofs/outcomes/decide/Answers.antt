@@ -1,6 +1,5 @@
-use Rattle.std.proofs.Common.{◌≡◌, ℕ, ◌+◌, ◌<◌, ◌≤◌, false, length, get_or, sym, ap, ◌∙◌, arith}
+use Rattle.std.proofs.Common.{◌+◌, false, get_or, ◌∙◌, arith}
 use Rattle.std.proofs.lemmas.List.{length-set}
-use Rattle.page.specs.Headers.{count_of}
 use Rattle.page.specs.Slots.{view_of}
 use Rattle.page_prune.specs.Pruned.{next_in, dead_in, outcome}
 use Rattle.page_prune.proofs.Ready.{few, decide_more, decided}

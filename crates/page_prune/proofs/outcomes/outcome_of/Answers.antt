@@ -1,4 +1,4 @@
-use Rattle.std.proofs.Common.{◌≡◌, ℕ, ◌+◌, ◌≤◌, sym, ap, ◌∙◌, arith}
+use Rattle.std.proofs.Common.{ℕ, ◌+◌, ◌≤◌, ap, ◌∙◌, arith}
 use Rattle.page.specs.Headers.{count_of}
 use Rattle.page_prune.specs.Chains.{walk}
 use Rattle.page_prune.specs.Pruned.{next_in}

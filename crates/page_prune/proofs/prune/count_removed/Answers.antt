@@ -1,4 +1,4 @@
-use Rattle.std.proofs.Common.{◌≡◌, ℕ, ◌+◌, length, ap, ◌∙◌, arith}
+use Rattle.std.proofs.Common.{◌≡◌, ◌+◌, length, ap, ◌∙◌, arith}
 use Rattle.page.specs.Slots.{Slot, slot_at, view_of}
 use Rattle.page_laws.proofs.Views.{view_length}
 use Rattle.page_check.specs.All.{count_to}

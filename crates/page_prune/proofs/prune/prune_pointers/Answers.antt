@@ -1,4 +1,4 @@
-use Rattle.std.proofs.Common.{◌≡◌, ◌∙◌, arith}
+use Rattle.std.proofs.Common.{◌∙◌, arith}
 use Rattle.page.specs.Slots.{view_of}
 use Rattle.page_prune.specs.Pruned.{next_in, dead_in, outcome_in, outcome}
 use Rattle.page_prune.proofs.Ready.{few}

@@ -1,4 +1,4 @@
-use Rattle.std.proofs.Common.{refl, arith}
+use Rattle.std.proofs.Common.{arith}
 use Rattle.plain_source.proofs.Shifting.{shifts_one, shifts_none, shifted_all}
 use Rattle.plain_source.proofs.plain.calls.shifted.Goals as goal
 use Rattle.plain_source.proofs.plain.calls.shifted.Goals.{then-by-place, else-by-place}

@@ -1,4 +1,4 @@
-use Rattle.std.proofs.Common.{◌≡◌, ◌<◌, length, sym, ap, ◌∙◌, arith}
+use Rattle.std.proofs.Common.{◌<◌, length, sym, ap, ◌∙◌, arith}
 use Rattle.snapshot.proofs.Numbers.{keeps_one, drops_one}
 use Rattle.snapshot.proofs.lists.XidList.retain.Goals as goal
 use Rattle.snapshot.proofs.lists.XidList.retain.Goals.{then-keeps, else-keeps}
