@@ -1,6 +1,6 @@
 -- The edges of the rules, as one table over the definitions.
 use Rattle.std.specs.Prelude.{◌≡◌, ℕ, Bool, true, false, List, [], ◌∷◌, length}
-use Rattle.std.specs.List.{AllByRecursion as All}
+use Rattle.std.specs.List.{AllByRecursion}
 use Rattle.page.specs.Slots.{Version}
 use Rattle.page_room.specs.Room.{takes}
 use Rattle.page_write.specs.Empty.{empty_page}
@@ -30,6 +30,6 @@ TakesAnother k answer = (vs : List Version) → EachHas 33 vs → length vs ≡ 
 
 -- the order of the numbers and what runs for a snapshot; 185 rows of kind 1, and not 186
 pub record Edges : Type 0 where
-  pub order : All (λ row. row.0 ≡ row.1) edges
+  pub order : AllByRecursion (λ row. row.0 ≡ row.1) edges
   pub row185 : TakesAnother 184 true
   pub row186 : TakesAnother 185 false

@@ -1,6 +1,6 @@
 -- Members of lists of numbers, places and their xmins, and functions changed at one argument.
 use Rattle.std.proofs.Common.{◌≡◌, ℕ, zero, suc, ◌≤◌, Bool, true, false, ◌&&◌, ◌||◌, eqb, ◌⊎◌, List, [], ◌∷◌, ◌++◌, get_or, set, is_some, Some, None, Decides, filter, Option, sym, refl, ap, ◌∙◌, inl, inr, ⊎_elim, arith}
-use Rattle.std.specs.List.{ContainsAt as Has}
+use Rattle.std.specs.List.{ContainsAt}
 use Rattle.std.proofs.ByRecursion.{all-has}
 use Rattle.std.proofs.lemmas.Bool.{cases_Bool, cases_eq, eq-eqb, ne_eqb, eqb-true, and_right, or_cases, or_left, or_right, cond_both, both_ways}
 use Rattle.std.proofs.lemmas.Bool.Decides.{Decides-by_or, Decides-eqb, nat_tests}
@@ -40,7 +40,7 @@ listed_kept_by x f (y ∷ xs) = go (cases_Bool (f y)) (cases_eq y x) (listed_kep
     go (inr k) (inl e) ih = let k' : f x ≡ false = rw e at k in rw (k, eq-eqb y x e) (ih ∙ and_right _ _ k' ∙ sym k')
     go (inr k) (inr n) ih = rw (k, ne_eqb y x n) ih
 
-pub listed_has : (x : ℕ) (xs : List ℕ) → Decides (is_listed x xs) (Has xs x)
+pub listed_has : (x : ℕ) (xs : List ℕ) → Decides (is_listed x xs) (ContainsAt xs x)
 listed_has x xs = Decides-by_or (λ y. eqb y x) (λ y. y ≡ x) (is_listed x) (λ y. Decides-eqb y x) refl (λ _ _. refl) xs
 
 -- the nearest of n and some numbers is no further than each of them, and is n or one of them

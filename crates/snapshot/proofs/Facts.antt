@@ -1,6 +1,6 @@
 -- What holds of every snapshot that is taken of a lawful source.
 use Rattle.std.proofs.Common.{◌≡◌, ℕ, ◌+◌, ◌<◌, ◌≤◌, true, List, [], ◌∷◌, filter, arith}
-use Rattle.std.specs.List.{AllByRecursion as All}
+use Rattle.std.specs.List.{AllByRecursion}
 use Rattle.std.proofs.ByRecursion.{all-has, All-weaker, kept_by_passes}
 use Rattle.xid.specs.Numbers.{distance, in_window}
 use Rattle.xid.specs.Meaning.{Meaning, Lawful}
@@ -21,7 +21,7 @@ module _ (m : Meaning) (w : Lawful m) (active : List ℕ) where
   abbrev xmin : ℕ
   xmin = nearest m.oldest m.next listed
 
-  in_window_lem : All (Within o n) listed
+  in_window_lem : AllByRecursion (Within o n) listed
   in_window_lem = All-weaker (λ x. in_window o n x ≡ true) (Within o n) (window_within o n) listed (kept_by_passes (in_window o n) active)
 
   xmin_high : xmin < 4294967296
@@ -35,7 +35,7 @@ module _ (m : Meaning) (w : Lawful m) (active : List ℕ) where
   to_next : distance o xmin + distance xmin n ≡ distance o n
   to_next = by_xmin n w.next_high (nearest_is_least o n listed).least.0
 
-  both : (xs : List ℕ) → All (Within o n) xs → All (λ x. distance o xmin ≤ distance o x) xs → All (λ x. distance xmin x < distance xmin n) xs
+  both : (xs : List ℕ) → AllByRecursion (Within o n) xs → AllByRecursion (λ x. distance o xmin ≤ distance o x) xs → AllByRecursion (λ x. distance xmin x < distance xmin n) xs
   both [] a b = tt
   both (x ∷ xs) a b = (before x a.0 b.0, both xs a.1 b.1)
     where

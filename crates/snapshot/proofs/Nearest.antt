@@ -1,6 +1,6 @@
 -- The nearest of some numbers.
 use Rattle.std.proofs.Common.{◌≡◌, ℕ, ◌<◌, ◌≤◌, cond, List, [], ◌∷◌, ◌++◌, length, get_or, refl, subst}
-use Rattle.std.specs.List.{ContainsAt as Has}
+use Rattle.std.specs.List.{ContainsAt}
 use Rattle.std.proofs.lemmas.List.MinMax.{IsStrictWeakOrder-by_number, IsFirstBest-from_best_of}
 use Rattle.std.proofs.ByRecursion.{All-from_get_or, has_get_or}
 use Rattle.std.proofs.lemmas.Bool.{ltb-false}
@@ -15,7 +15,7 @@ nearest_is_least o n xs =
     = λ k h. subst (λ b. distance o b ≤ distance o (get_or (n ∷ xs) k n)) f.2 (ltb-false _ _ (f.1.1 k n h)) in
     record {
       least = All-from_get_or (λ y. distance o (nearest o n xs) ≤ distance o y) (n ∷ xs) n least;
-      one_of = subst (Has (n ∷ xs)) f.2 (has_get_or (n ∷ xs) f.0 n f.1.0);
+      one_of = subst (ContainsAt (n ∷ xs)) f.2 (has_get_or (n ∷ xs) f.0 n f.1.0);
     }
 
 -- the nearest of two lists, one after the other

@@ -1,7 +1,7 @@
 -- Snapshots, and what is running for one; the horizon.
 use Rattle.std.specs.Prelude.{◌≡◌, ℕ, ◌<◌, Bool, not, ◌&&◌, ◌||◌, List, [], ◌∷◌, map, is_some, Some, None, filter, Option, nat_lt}
 use Rattle.std.specs.Option.{option_map}
-use Rattle.std.specs.List.{best_of, prefix_len, AllByRecursion as All}
+use Rattle.std.specs.List.{best_of, prefix_len, AllByRecursion}
 use Rattle.xid.specs.Numbers.{distance, precedes, in_window}
 use Rattle.xid.specs.Meaning.{Meaning}
 use Rattle.snapshot.specs.declared.active.Active.{Active}
@@ -37,7 +37,7 @@ running s x = not (precedes x s.xmin) && (not (precedes x s.xmax) || is_listed x
 -- Counted on from xmin, xmax is under 2^31 away, and the listed numbers come before it.
 pub record SnapshotFacts (s : SnapshotData) : Type 0 where
   pub short : distance s.xmin s.xmax < 2147483648
-  pub before : All (λ x. distance s.xmin x < distance s.xmin s.xmax) s.listed
+  pub before : AllByRecursion (λ x. distance s.xmin x < distance s.xmin s.xmax) s.listed
 
 -- a snapshot that is taken of a source with this meaning
 pub record Taken (m : Meaning) (active : List ℕ) (s : SnapshotData) : Type 0 where
