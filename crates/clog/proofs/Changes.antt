@@ -1,20 +1,17 @@
 -- What each call leaves of sound pages.
-use Rattle.std.proofs.Common.{◌≡◌, ℕ, ◌+◌, ◌*◌, ◌/◌, ◌%◌, ◌<◌, ◌≤◌, Bool, true, false, cond, eqb, List, length, Result, sym, refl, ap, ◌∙◌, subst, ⊎_elim, arith, lit<}
-use Rattle.std.proofs.lemmas.Bool.{eq-eqb, leb-false, cases_Bool, cond-true, cond-false}
+use Rattle.std.proofs.Common.{◌≡◌, ℕ, ◌+◌, ◌*◌, ◌/◌, ◌%◌, ◌<◌, ◌≤◌, Bool, true, false, cond, eqb, List, length, sym, refl, ap, ◌∙◌, subst, ⊎_elim, arith, lit<}
+use Rattle.std.proofs.lemmas.Bool.{eq-eqb, leb-false}
 use Rattle.xid.specs.declared.statuses.Status.{Status}
 use Rattle.xid.specs.declared.statuses.Status.TheVariants.{Open, Committed, Aborted, Unknown}
 use Rattle.xid.specs.declared.statuses.End.{End}
 use Rattle.xid.specs.Numbers.{distance, successor, in_window}
 use Rattle.xid.specs.Statuses.{code_of, status_of, end_status, is_open}
-use Rattle.xid.specs.declared.source.TurnedDown.{TurnedDown}
-use Rattle.xid.specs.Calls.{Opened, Closed, Forgot}
-use Rattle.xid.specs.Meaning.{Known, windowed, meaning_by, forgettable, after_open, after_close, after_forget, open_answer, close_answer, forget_answer}
+use Rattle.xid.specs.Meaning.{Known, windowed, meaning_by, forgettable, after_open, after_close, after_forget}
 use Rattle.xid.proofs.Distances.{successor_steps}
 use Rattle.xid.proofs.Stored.{opened_by, opened_known, closed_by, closed_known, open_within, forgot_by, forgot_known, forgettable_near}
 use Rattle.xid.proofs.Windows.{window_shrinks}
 use Rattle.clog.specs.Codes.{put_code}
-use Rattle.clog.specs.declared.pages.TwoBitPages.{TwoBitPages}
-use Rattle.clog.specs.Pages.{fitting_size, stored_in, full_at, Sound, bytes_of, meaning_of, IsSound, OpenLeft, CloseLeft, ForgetLeft}
+use Rattle.clog.specs.Sound.{fitting_size, stored_in, full_at, Sound}
 use Rattle.clog.specs.Laws.{size_least, size_most}
 use Rattle.clog.proofs.CodesKept.{code_put, code_kept, length_put}
 use Rattle.clog.proofs.Slots.{slots_apart, slots_apart_within}
@@ -137,75 +134,3 @@ module _ (memory : List ℕ) (o n c : ℕ) (s : Sound memory o n) (ch : c < 4294
         known = forgot_known o n (full_at memory o n) false (stored_in memory) (stored_in memory) c s.oldest_high s.next_low s.next_high ch t (λ x i. refl) s.known;
         held = omega (arith, s.held, less);
       }
-
--- the pages, by their parts
-same_meaning : (p : TwoBitPages) (memory : List ℕ) (o n : ℕ) → bytes_of p ≡ memory → p.oldest ≡ o → p.next ≡ n → meaning_of p ≡ meaning_by o n (full_at memory o n) (stored_in memory)
-same_meaning p memory o n a b c = rw (a, b, c)
-
-same_sound : (p : TwoBitPages) (memory : List ℕ) (o n : ℕ) → bytes_of p ≡ memory → p.oldest ≡ o → p.next ≡ n → Sound memory o n → IsSound p
-same_sound p memory o n a b c s = rw (a, b, c) s
-
--- what is left is what the calls promise
-pub open_promised : (p q : TwoBitPages) (r : Result ℕ TurnedDown) → r ≡ open_answer (meaning_of p) → OpenLeft p q → IsSound p → Opened (IsSound q) (meaning_of p) (meaning_of q) r
-open_promised p q r answer left s = ⊎_elim
-    (λ (f : (meaning_of p).full ≡ true).
-    let bytes = left.bytes ∙ cond-true (meaning_of p).full (bytes_of p) _ f in
-    let next = left.next ∙ cond-true (meaning_of p).full p.next (successor p.next) f in
-    record {
-      sound = same_sound q (bytes_of p) p.oldest p.next bytes left.oldest next s;
-      answer = answer;
-      meaning = same_meaning q (bytes_of p) p.oldest p.next bytes left.oldest next ∙ sym (cond-true (meaning_of p).full (meaning_of p) _ f);
-    })
-    (λ (f : (meaning_of p).full ≡ false).
-    let bytes = left.bytes ∙ cond-false (meaning_of p).full (bytes_of p) _ f in
-    let next = left.next ∙ cond-false (meaning_of p).full p.next (successor p.next) f in
-    let o = left.oldest in
-    record {
-      sound = subst (λ k. Sound (bytes_of q) k q.next) (sym o) (opened_sound (bytes_of p) (bytes_of q) p.oldest p.next q.next bytes next s f);
-      answer = answer;
-      meaning = ap (λ k. meaning_by k q.next (meaning_of q).full (stored_in (bytes_of q))) o
-          ∙ opened_meaning (bytes_of p) (bytes_of q) p.oldest p.next q.next bytes next s f (meaning_of q).full;
-    })
-    (cases_Bool (meaning_of p).full)
-
-pub close_promised : (p q : TwoBitPages) (x : ℕ) (e : End) (r : Result (Unit {0}) TurnedDown) → r ≡ close_answer (meaning_of p) x → CloseLeft p q x e → IsSound p
-    → Closed (IsSound q) (meaning_of p) (meaning_of q) x e r
-close_promised p q x e r answer left s = ⊎_elim
-    (λ (t : is_open ((meaning_of p).status x) ≡ true).
-    let bytes = left.bytes ∙ cond-true (is_open ((meaning_of p).status x)) _ (bytes_of p) t in
-    let o = left.oldest in
-    let n = left.next in
-    record {
-      sound = subst (λ k. Sound (bytes_of q) k q.next) (sym o) (subst (λ k. Sound (bytes_of q) p.oldest k) (sym n)
-          (closed_sound (bytes_of p) (bytes_of q) p.oldest p.next x e bytes s t));
-      answer = answer;
-      meaning = ap (λ k. meaning_by k q.next (meaning_of q).full (stored_in (bytes_of q))) o ∙ ap (λ k. meaning_by p.oldest k (meaning_of q).full (stored_in (bytes_of q))) n
-          ∙ closed_meaning (bytes_of p) (bytes_of q) p.oldest p.next x e bytes s t (meaning_of q).full;
-    })
-    (λ (f : is_open ((meaning_of p).status x) ≡ false).
-    let bytes = left.bytes ∙ cond-false (is_open ((meaning_of p).status x)) _ (bytes_of p) f in
-    record {
-      sound = same_sound q (bytes_of p) p.oldest p.next bytes left.oldest left.next s;
-      answer = answer;
-      meaning = same_meaning q (bytes_of p) p.oldest p.next bytes left.oldest left.next ∙ sym (cond-false (is_open ((meaning_of p).status x)) _ (meaning_of p) f);
-    })
-    (cases_Bool (is_open ((meaning_of p).status x)))
-
-pub forget_promised : (p q : TwoBitPages) (c : ℕ) (r : Result (Unit {0}) TurnedDown) → c < 4294967296 → r ≡ forget_answer (meaning_of p) c → ForgetLeft p q c → IsSound p
-    → Forgot (IsSound q) (meaning_of p) (meaning_of q) c r
-forget_promised p q c r ch answer left s = ⊎_elim
-    (λ (t : forgettable (meaning_of p) c ≡ true).
-    let o = left.oldest ∙ cond-true (forgettable (meaning_of p) c) c p.oldest t in
-    record {
-      sound = same_sound q (bytes_of p) c p.next left.bytes o left.next (forgot_sound (bytes_of p) p.oldest p.next c s ch t);
-      answer = answer;
-      meaning = rw (left.bytes, o, left.next) (forgot_meaning (bytes_of p) p.oldest p.next c s ch t (full_at (bytes_of p) c p.next));
-    })
-    (λ (f : forgettable (meaning_of p) c ≡ false).
-    let o = left.oldest ∙ cond-false (forgettable (meaning_of p) c) c p.oldest f in
-    record {
-      sound = same_sound q (bytes_of p) p.oldest p.next left.bytes o left.next s;
-      answer = answer;
-      meaning = same_meaning q (bytes_of p) p.oldest p.next left.bytes o left.next ∙ sym (cond-false (forgettable (meaning_of p) c) _ (meaning_of p) f);
-    })
-    (cases_Bool (forgettable (meaning_of p) c))

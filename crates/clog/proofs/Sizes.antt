@@ -3,7 +3,7 @@ use Rattle.std.proofs.Common.{◌≡◌, ℕ, zero, suc, ◌+◌, ◌*◌, ◌/�
 use native.Mathlib.Nat.{pow-succ', mul-mod_right}
 use lib.Count.{ones, ones_step, ones-le}
 use Rattle.std.proofs.lemmas.Bool.{cases_eq, and_parts, eqb-true}
-use Rattle.clog.specs.Pages.{fitting_size}
+use Rattle.clog.specs.Sound.{fitting_size}
 use Rattle.clog.specs.Laws.{size_most}
 
 half_below : (k n : ℕ) → n < 2 ^ suc k → n / 2 < 2 ^ k

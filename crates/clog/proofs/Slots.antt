@@ -4,7 +4,7 @@ use native.Mathlib.Nat.{div-add-mod}
 use Rattle.std.proofs.lemmas.Bool.{cases_lt, cases_eq, cases_order}
 use Rattle.xid.specs.Numbers.{distance, in_window}
 use Rattle.xid.proofs.Windows.{window_within}
-use Rattle.clog.specs.Pages.{Sound}
+use Rattle.clog.specs.Sound.{Sound}
 use Rattle.clog.specs.Laws.{size_least, held_at_wrap, held_elsewhere}
 use Rattle.clog.proofs.Sizes.{size_divides}
 

@@ -7,7 +7,8 @@ use Rattle.xid.specs.Numbers.{distance, in_window}
 use Rattle.xid.specs.Meaning.{Lawful}
 use Rattle.xid.proofs.Stored.{known_within}
 use Rattle.clog.specs.declared.pages.TwoBitPages.{TwoBitPages}
-use Rattle.clog.specs.Pages.{fitting_size, stored_in, bytes_of, meaning_of, Sound, IsSound}
+use Rattle.clog.specs.Sound.{fitting_size, stored_in, Sound}
+use Rattle.clog.specs.Pages.{bytes_of, meaning_of}
 
 pub size_least : (n : ℕ) → fitting_size n ≡ true → 16 ≤ n
 size_least n e = leb-true 16 n (and_parts (nat_le 16 n) (nat_le n 16384) (and_parts (nat_le 16 n && nat_le n 16384) (count_ones n == 1) e).0).0
@@ -27,11 +28,12 @@ held_elsewhere memory o n s e =
 pub held_most : (memory : List ℕ) (o n : ℕ) → Sound memory o n → distance o n ≤ 4 * length memory + 3
 held_most memory o n s = ⊎_elim (held_at_wrap memory o n s) (λ e. omega (arith, held_elsewhere memory o n s e)) (cases_eq n 3)
 
-pub pages_lawful : (p : TwoBitPages) → IsSound p → Lawful (meaning_of p)
-pages_lawful p s =
+pub pages_lawful : (p : TwoBitPages) → Lawful (meaning_of p)
+pages_lawful p =
+    let s = p.sound in
     let memory = bytes_of p in
-    let o = p.oldest in
-    let n = p.next in
+    let o = p.window.oldest in
+    let n = p.window.next in
     let least = size_least (length memory) s.size in
     let most = size_most (length memory) s.size in
     let held = held_most memory o n s in

@@ -1,3 +1,4 @@
 pub mod Codes
+pub mod Sound
 pub mod Pages
 pub mod Laws

@@ -16,7 +16,7 @@ fn code_in(byte: u8, x: u32) -> u8
 fn with_code(byte: u8, x: u32, status: Status) -> u8
     ensures { result ≡ with_code byte (x % 4) (code_of status) }
 {
-    let code = status.code();
+    let code = u8::from(status);
     match x % 4 {
         0 => byte / 4 * 4 + code,
         1 => byte / 16 * 16 + code * 4 + byte % 4,
@@ -30,10 +30,10 @@ pub fn read_slot(memory: &[u8], x: u32) -> Status
     ensures { result ≡ status_of (code_at memory.now x) }
 {
     if memory.len() == 0 {
-        return Status::from_code(0);
+        return Status::from(0);
     }
     let at = (x / 4) as usize % memory.len();
-    Status::from_code(code_in(memory[at], x))
+    Status::from(code_in(memory[at], x))
 }
 
 // Puts a status into the slot of x.

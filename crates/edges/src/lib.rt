@@ -5,8 +5,6 @@
 ghost use Rattle.edges.specs.Edges.{Edges};
 
 // At each edge the definitions say what the rules say.
-pub fn edges_are_right() -> u8
+pub fn edges_are_right()
     ensures { Edges }
-{
-    0
-}
+{}

@@ -1,5 +1,5 @@
 -- What is asked of the numbers on pages.
-use Rattle.std.specs.Prelude.{Bool, true, false, ◌&&◌, ◌||◌, not, List, [], ℕ, ◌+◌, eqb, length, get_or}
+use Rattle.std.specs.Prelude.{Bool, true, false, ◌&&◌, ◌||◌, not, List, [], ℕ, ◌+◌, ◌==◌, length, slice_index_or}
 use Rattle.page.specs.Headers.{count_of}
 use Rattle.page.specs.Slots.{Version, Slot, slot_no}
 use Rattle.page.specs.Slots.Slot.{unused, dead, redirect, holds}
@@ -10,7 +10,7 @@ use Rattle.xid.specs.Numbers.{precedes, in_window}
 abbrev pub version_known : ℕ → ℕ → Version → Bool
 version_known oldest next v =
     (v.creator_committed || v.creator_invalid || in_window oldest next v.creator)
-    && (eqb v.remover 0 || v.remover_committed || v.remover_invalid || in_window oldest next v.remover)
+    && (v.remover == 0 || v.remover_committed || v.remover_invalid || in_window oldest next v.remover)
 
 abbrev pub slot_known : ℕ → ℕ → Slot → Bool
 slot_known oldest next unused = true
@@ -25,7 +25,7 @@ page_known oldest next p = each (λ n. slot_known oldest next (slot_no p n)) (co
 abbrev pub version_needs : ℕ → Version → Bool
 version_needs c v =
     (not (v.creator_committed && v.creator_invalid) && precedes v.creator c)
-    || (not (eqb v.remover 0) && precedes v.remover c)
+    || (not (v.remover == 0) && precedes v.remover c)
 
 abbrev pub slot_needs : ℕ → Slot → Bool
 slot_needs c unused = false
@@ -38,4 +38,4 @@ page_needs c p = any_to (λ k. slot_needs c (slot_no p (k + 1))) (count_of p)
 
 -- some version of some page does
 abbrev pub still_needed : ℕ → List (List ℕ) → Bool
-still_needed c pages = any_to (λ k. page_needs c (get_or pages k [])) (length pages)
+still_needed c pages = any_to (λ k. page_needs c (slice_index_or pages k [])) (length pages)

@@ -2,58 +2,42 @@
 //
 // Proved here: whether all unmarked creators and removers of a version or of a page lie in a source's window, so that it
 // can tell their fate; and whether some version of some page still needs a number before a cutoff. Both are about bytes
-// and numbers alone: no source is asked.
+// and numbers alone: no source is asked. That versions lie inside is asked of a page, and is not
+// a type of its own: these functions are the interface for the calls, which have pages as plain bytes.
 
 #![tactic(auto)]
 
 ghost use Rattle.std.specs.Prelude.{◌≡◌, []};
-ghost use Rattle.page.specs.LinePointers.{pointer_at};
-ghost use Rattle.page.specs.Slots.{decoded, slot_of};
-ghost use Rattle.page_check.specs.Marking.{LiesIn, AllLie, PagesLie};
-ghost use Rattle.heap_checks.specs.Numbers.{version_known, slot_known, page_known, version_needs, slot_needs, still_needed};
+ghost use Rattle.page.specs.Slots.{decoded};
+ghost use Rattle.page_check.specs.Marking.{AllLie, PagesLie};
+ghost use Rattle.heap_checks.specs.Numbers.{version_known, page_known, version_needs, page_needs, still_needed};
 
-use page::{Mark, Page, Pointer, VersionHeader, pointer_at, pointer_count, version_at};
-use xid::numbers::{in_window, precedes};
+use page::{Mark, Page, VersionHeader, pointer_numbers, version_of};
+use xid::numbers::precedes;
+use xid::window::Window;
 
 // Whether a source with this window can tell the fate of a version's creator and remover: each is marked, or lies in it.
-pub fn is_version_known(oldest: u32, next: u32, version: &VersionHeader) -> bool
-    ensures { result ≡ version_known oldest next (decoded version.now []) }
+pub fn is_version_known(window: Window, version: &VersionHeader) -> bool
+    ensures { result ≡ version_known window.oldest window.next (decoded version.now []) }
 {
     let creator = version.has(Mark::CreatorCommitted)
         || version.has(Mark::CreatorInvalid)
-        || in_window(oldest, next, version.creator);
+        || window.contains(version.creator);
     let remover = version.remover == 0
         || version.has(Mark::RemoverCommitted)
         || version.has(Mark::RemoverInvalid)
-        || in_window(oldest, next, version.remover);
+        || window.contains(version.remover);
     creator && remover
 }
 
-fn is_slot_known(oldest: u32, next: u32, page: &Page, number: u16) -> bool
-    requires { LiesIn (pointer_at page.now number) }
-    ensures { result ≡ slot_known oldest next (slot_of page.now (pointer_at page.now number)) }
-{
-    let Pointer::Normal { offset, len: _ } = pointer_at(page, number) else {
-        return true;
-    };
-    let Some(version) = version_at(page, offset) else {
-        return true;
-    };
-    is_version_known(oldest, next, &version)
-}
-
 // The same of all versions of a page.
-pub fn is_page_known(oldest: u32, next: u32, page: &Page) -> bool
+pub fn is_page_known(window: Window, page: &Page) -> bool
     requires { AllLie page.now }
-    ensures { result ≡ page_known oldest next page.now }
+    ensures { result ≡ page_known window.oldest window.next page.now }
 {
-    let count = pointer_count(page);
-    for i in 0..count {
-        if !is_slot_known(oldest, next, page, i + 1) {
-            return false;
-        }
-    }
-    true
+    pointer_numbers(page).all(|number| {
+        version_of(page, number).is_none_or(|version| is_version_known(window, &version))
+    })
 }
 
 // Whether a version has an unfrozen creator or a remover that precedes the cutoff.
@@ -66,17 +50,13 @@ pub fn is_version_needing(cutoff: u32, version: &VersionHeader) -> bool
     creator || remover
 }
 
-fn is_slot_needing(cutoff: u32, page: &Page, number: u16) -> bool
-    requires { LiesIn (pointer_at page.now number) }
-    ensures { result ≡ slot_needs cutoff (slot_of page.now (pointer_at page.now number)) }
+fn is_page_needing(cutoff: u32, page: &Page) -> bool
+    requires { AllLie page.now }
+    ensures { result ≡ page_needs cutoff page.now }
 {
-    let Pointer::Normal { offset, len: _ } = pointer_at(page, number) else {
-        return false;
-    };
-    let Some(version) = version_at(page, offset) else {
-        return false;
-    };
-    is_version_needing(cutoff, &version)
+    pointer_numbers(page).any(|number| {
+        version_of(page, number).is_some_and(|version| is_version_needing(cutoff, &version))
+    })
 }
 
 // Whether some version of some page still needs a number before the cutoff.
@@ -84,15 +64,5 @@ pub fn is_still_needed(pages: &[Page], cutoff: u32) -> bool
     requires { PagesLie pages.now }
     ensures { result ≡ still_needed cutoff pages.now }
 {
-    let mut needed = false;
-    'blocks: for block in 0..pages.len() {
-        let page = &pages[block];
-        for i in 0..pointer_count(page) {
-            if is_slot_needing(cutoff, page, i + 1) {
-                needed = true;
-                break 'blocks;
-            }
-        }
-    }
-    needed
+    pages.iter().any(|page| is_page_needing(cutoff, page))
 }

@@ -1,35 +1,35 @@
--- What is found first above a number, and in the blocks from one on.
-use Rattle.std.proofs.Common.{◌≡◌, ℕ, zero, suc, ◌+◌, ◌<◌, ◌≤◌, Bool, true, false, cond, ◌&&◌, ltb, Some, None, Option, sym, refl, arith}
-use Rattle.std.proofs.lemmas.Bool.{and_from, and_left, and_right, lt-ltb, le-ltb, cond-true, cond-false}
+-- What is found first below a bound, and above a number.
+use Rattle.std.proofs.Common.{◌≡◌, ℕ, zero, suc, ◌+◌, ◌-◌, ◌<◌, ◌≤◌, Bool, true, false, cond, ltb, is_some, Some, None, Option, sym, refl, arith}
+use Rattle.std.proofs.lemmas.Bool.{le-ltb, cond-false}
+use Rattle.std.proofs.lemmas.Bool.Decides.{nat_tests}
 use Rattle.page_check.specs.All.{first_below, first_to}
-use Rattle.page_check.proofs.All.{first_to_more, first_to_hit}
+use Rattle.page_check.proofs.All.{first_below_hit}
 use Rattle.heap_read.specs.Reading.{above}
 
+module _ {A : Type 0} (f : ℕ → Option A) where
+  pub none_below : (n : ℕ) → ((k : ℕ) → k < n → f k ≡ None) → first_below f n ≡ None
+  none_below zero h = refl
+  none_below (suc n) h = rw (none_below n (λ k l. h k (omega arith))) (h n (omega arith))
+
+  pub found_below : (i n : ℕ) (r : Option A) → i < n → ((k : ℕ) → k < i → f k ≡ None) → r ≡ f i → is_some r ≡ true → r ≡ first_below f n
+  found_below i n r l h = first_below_hit f i n r (none_below i h) l
+
 module _ (f : ℕ → Bool) (a : ℕ) where
-  above_not : (n : ℕ) → n ≤ a → above f a n ≡ None
-  above_not n l = cond-false (ltb a n && f n) (Some n) None (and_left (ltb a n) (f n) (le-ltb a n l))
+  above_miss : (n : ℕ) → (a < n → f n ≡ false) → above f a n ≡ None
+  above_miss n h = grind (arith, nat_tests)
 
-  -- nothing lies above a among the numbers up to a
-  pub above_start : (i : ℕ) → i ≤ a → first_to (above f a) i ≡ None
-  above_start zero l = refl
-  above_start (suc i) l =
-      let m : i + 1 ≤ a = omega arith in
-      rw (above_start i (omega arith)) (above_not (i + 1) m)
+  above_there : (n : ℕ) → a < n → true ≡ f n → Some n ≡ above f a n
+  above_there n l e = grind (arith, nat_tests)
 
-  pub above_miss : (i : ℕ) → first_to (above f a) i ≡ None → false ≡ f (i + 1) → first_to (above f a) (i + 1) ≡ None
-  above_miss i h e =
-      first_to_more (above f a) i h (cond-false (ltb a (i + 1) && f (i + 1)) (Some (i + 1)) None (and_right (ltb a (i + 1)) (f (i + 1)) (sym e)))
+  pub none_above : (i n : ℕ) → n < i → ((k : ℕ) → k < i → a < k → f k ≡ false) → None ≡ first_to (above f a) n
+  none_above i n l h = sym (none_below (λ k. above f a (k + 1)) n (λ k x. above_miss (k + 1) (h (k + 1) (omega arith))))
 
-  pub above_hit : (i n : ℕ) → first_to (above f a) i ≡ None → a ≤ i → i < n → true ≡ f (i + 1) → Some (i + 1) ≡ first_to (above f a) n
-  above_hit i n h l b e =
-      first_to_hit (above f a) i n (Some (i + 1)) h b
-      (sym (cond-true (ltb a (i + 1) && f (i + 1)) (Some (i + 1)) None (and_from (ltb a (i + 1)) (f (i + 1)) (lt-ltb a (i + 1) (omega arith)) (sym e)))) refl
+  pub first_above : (i n : ℕ) → a < i → i ≤ n → ((k : ℕ) → k < i → a < k → f k ≡ false) → true ≡ f i → Some i ≡ first_to (above f a) n
+  first_above i n l m h e =
+      let q : i - 1 + 1 ≡ i = omega arith in
+      found_below (λ k. above f a (k + 1)) (i - 1) n (Some i) (omega arith) (λ k x. above_miss (k + 1) (h (k + 1) (omega arith)))
+      (rw q (above_there i l e)) refl
 
--- nothing is found in blocks that are passed over
-pub skip_start : {A : Type 0} (f : ℕ → Option A) (a i : ℕ) → i ≤ a → first_below (λ k. cond (ltb k a) None (f k)) i ≡ None
-skip_start f a zero l = refl
-skip_start f a (suc i) l =
-    rw (skip_start f a i (omega arith)) (cond-true (ltb i a) None (f i) (lt-ltb i a (omega arith)))
-
+-- blocks from a on are not passed over
 pub skip_at : {A : Type 0} (f : ℕ → Option A) (a i : ℕ) → a ≤ i → cond (ltb i a) None (f i) ≡ f i
 skip_at f a i l = cond-false (ltb i a) None (f i) (le-ltb i a l)

@@ -1,4 +1,3 @@
-pub mod Asked
 pub mod Fates
 pub mod Reading
 pub mod Links

@@ -1,5 +1,6 @@
 -- How versions hang together: links, roots and chains.
 use Rattle.std.specs.Prelude.{◌≡◌, ℕ, suc, Bool, true, false, cond, not, ◌&&◌, ◌⊎◌, List, [], ◌∷◌, Some, None, Option, ◌==◌, slice_index_or}
+use Rattle.std.specs.Bool.{then_some}
 use Rattle.std.specs.Option.{option_map}
 use Rattle.page.specs.Headers.{count_of}
 use Rattle.page.specs.Slots.{Version, Slot, slot_no}
@@ -38,7 +39,14 @@ names_on b slot v = v.hot_updated && v.ctid.block == b && is_made_by v.remover (
 abbrev pub links_on : (ℕ → Status) → ℕ → (ℕ → Slot) → Version → Bool
 links_on told b slot v = names_on b slot v && not (is_aborted (creator_fate told v)) && not (is_none (remover_fate told v))
 
--- the pointer that a slot links to, or 0
+-- the pointer that a slot links to
+abbrev pub link_in : (ℕ → Status) → ℕ → (ℕ → Slot) → Slot → Option ℕ
+link_in told b slot unused = None
+link_in told b slot dead = None
+link_in told b slot (redirect t) = Some t
+link_in told b slot (holds v) = then_some (links_on told b slot v) v.ctid.pointer
+
+-- the same as a number, 0 for none
 abbrev pub link_from : (ℕ → Status) → ℕ → (ℕ → Slot) → Slot → ℕ
 link_from told b slot unused = 0
 link_from told b slot dead = 0

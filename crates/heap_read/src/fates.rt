@@ -3,7 +3,6 @@ ghost use Rattle.std.specs.Prelude.{◌≡◌, []};
 ghost use Rattle.page.specs.Slots.{decoded};
 ghost use Rattle.snapshot.specs.Snapshots.{data_of};
 ghost use Rattle.heap_read.specs.Fates.{creator_by_status, remover_by_status, creator_fate, remover_fate, is_seen, is_gone, visible};
-ghost use Rattle.heap_read.specs.Asked.{Asked};
 
 use page::{Mark, VersionHeader};
 use snapshot::snapshots::Snapshot;
@@ -11,7 +10,7 @@ use xid::source::StatusSource;
 use xid::statuses::Status;
 
 // A frozen creator counts as committed for everyone, whatever its number.
-#[derive(Clone, Copy)]
+#[derive(Clone, Copy, PartialEq, Eq, Debug)]
 pub enum CreatorFate {
     Frozen,
     Committed,
@@ -21,7 +20,7 @@ pub enum CreatorFate {
 }
 
 // A remover that aborted is none.
-#[derive(Clone, Copy)]
+#[derive(Clone, Copy, PartialEq, Eq, Debug)]
 pub enum RemoverFate {
     None,
     Pending,
@@ -29,10 +28,10 @@ pub enum RemoverFate {
     Unknown,
 }
 
-impl CreatorFate {
-    fn by_status(status: Status) -> CreatorFate
-        ensures { result ≡ creator_by_status status }
-    {
+impl From<Status> for CreatorFate {
+    ghost from_gives = { λ status fate. fate ≡ creator_by_status status };
+
+    fn from(status: Status) -> CreatorFate {
         match status {
             Status::Open => CreatorFate::Open,
             Status::Committed => CreatorFate::Committed,
@@ -42,10 +41,10 @@ impl CreatorFate {
     }
 }
 
-impl RemoverFate {
-    fn by_status(status: Status) -> RemoverFate
-        ensures { result ≡ remover_by_status status }
-    {
+impl From<Status> for RemoverFate {
+    ghost from_gives = { λ status fate. fate ≡ remover_by_status status };
+
+    fn from(status: Status) -> RemoverFate {
         match status {
             Status::Open => RemoverFate::Pending,
             Status::Committed => RemoverFate::Committed,
@@ -57,7 +56,8 @@ impl RemoverFate {
 
 // The fate of a version's creator: its bits decide, and where none is set, the source.
 pub fn creator_fate<S: StatusSource>(source: &mut S, version: &VersionHeader) -> CreatorFate
-    ensures { S.StatusSource.sound source.old → Asked (S.StatusSource.sound source.new) (S.StatusSource.meaning source.old) (S.StatusSource.meaning source.new) (result ≡ creator_fate (S.StatusSource.meaning source.old).status (decoded version.now [])) }
+    ensures answer { result ≡ creator_fate (S.meaning source.old).status (decoded version.now []) }
+    ensures kept { S.meaning source.new ≡ S.meaning source.old }
 {
     match (
         version.has(Mark::CreatorCommitted),
@@ -66,13 +66,14 @@ pub fn creator_fate<S: StatusSource>(source: &mut S, version: &VersionHeader) ->
         (true, true) => CreatorFate::Frozen,
         (true, false) => CreatorFate::Committed,
         (false, true) => CreatorFate::Aborted,
-        (false, false) => CreatorFate::by_status(source.status(version.creator)),
+        (false, false) => CreatorFate::from(source.status(version.creator)),
     }
 }
 
 // The fate of a version's remover: none where there is no number or the bits say so; else as for a creator.
 pub fn remover_fate<S: StatusSource>(source: &mut S, version: &VersionHeader) -> RemoverFate
-    ensures { S.StatusSource.sound source.old → Asked (S.StatusSource.sound source.new) (S.StatusSource.meaning source.old) (S.StatusSource.meaning source.new) (result ≡ remover_fate (S.StatusSource.meaning source.old).status (decoded version.now [])) }
+    ensures answer { result ≡ remover_fate (S.meaning source.old).status (decoded version.now []) }
+    ensures kept { S.meaning source.new ≡ S.meaning source.old }
 {
     if version.remover == 0 || version.has(Mark::RemoverInvalid) {
         return RemoverFate::None;
@@ -80,10 +81,10 @@ pub fn remover_fate<S: StatusSource>(source: &mut S, version: &VersionHeader) ->
     if version.has(Mark::RemoverCommitted) {
         return RemoverFate::Committed;
     }
-    RemoverFate::by_status(source.status(version.remover))
+    RemoverFate::from(source.status(version.remover))
 }
 
-// Whether a snapshot sees what a creator of this fate made.
+// Whether a snapshot sees what a creator of this fate made. A match, which names each fate, and no comparison with two.
 fn is_seen(fate: CreatorFate, snapshot: &Snapshot, creator: u32) -> bool
     ensures { result ≡ is_seen fate (data_of snapshot.now) creator }
 {
@@ -98,10 +99,7 @@ fn is_seen(fate: CreatorFate, snapshot: &Snapshot, creator: u32) -> bool
 fn is_gone(fate: RemoverFate, snapshot: &Snapshot, remover: u32) -> bool
     ensures { result ≡ is_gone fate (data_of snapshot.now) remover }
 {
-    match fate {
-        RemoverFate::Committed => !snapshot.is_running(remover),
-        RemoverFate::None | RemoverFate::Pending | RemoverFate::Unknown => false,
-    }
+    fate == RemoverFate::Committed && !snapshot.is_running(remover)
 }
 
 // Whether a version is visible to a snapshot. A hint bit says that a transaction ended, not when: whether it had ended when
@@ -111,12 +109,9 @@ pub fn is_visible<S: StatusSource>(
     snapshot: &Snapshot,
     version: &VersionHeader,
 ) -> bool
-    ensures { S.StatusSource.sound source.old → Asked (S.StatusSource.sound source.new) (S.StatusSource.meaning source.old) (S.StatusSource.meaning source.new) (result ≡ visible (S.StatusSource.meaning source.old).status (data_of snapshot.now) (decoded version.now [])) }
+    ensures answer { result ≡ visible (S.meaning source.old).status (data_of snapshot.now) (decoded version.now []) }
+    ensures kept { S.meaning source.new ≡ S.meaning source.old }
 {
-    let creator = creator_fate(source, version);
-    if !is_seen(creator, snapshot, version.creator) {
-        return false;
-    }
-    let remover = remover_fate(source, version);
-    !is_gone(remover, snapshot, version.remover)
+    is_seen(creator_fate(source, version), snapshot, version.creator)
+        && !is_gone(remover_fate(source, version), snapshot, version.remover)
 }

@@ -2,7 +2,7 @@
 use page::Address;
 
 // A version: where it stands, and its row, as part of the page.
-#[derive(Drop)]
+#[derive(Clone, Copy, PartialEq, Eq, Debug)]
 pub struct Found<'a> {
     pub address: Address,
     pub row: &'a [u8],

@@ -1,32 +1,33 @@
 // The lowest visible version above an address.
+//
+// A source and a snapshot are two parameters, as in all of this crate: a struct with both, passed as `&mut`, would owe in each
+// contract that the snapshot stays too. For the same reason what stays of a source is said at each call.
 ghost use Rattle.std.specs.Prelude.{◌≡◌, ◌≤◌, length};
 ghost use Rattle.page.specs.LinePointers.{pointer_at};
 ghost use Rattle.page.specs.Slots.{slot_of};
 ghost use Rattle.page_check.specs.Marking.{LiesIn, AllLie, PagesLie};
 ghost use Rattle.snapshot.specs.Snapshots.{data_of};
-ghost use Rattle.heap_read.specs.Asked.{Asked};
-ghost use Rattle.heap_read.specs.Reading.{visible_slot, next_on, next_in};
+ghost use Rattle.heap_read.specs.Reading.{visible_slot, next_on, start_in, next_in};
 
 use crate::fates::is_visible;
-use page::{Address, Page, PageHeader, Pointer, pointer_at, version_at};
+use page::{Address, Page, pointer_at, pointer_count, version_in};
 use snapshot::snapshots::Snapshot;
 use xid::source::StatusSource;
 
 // Whether the version of a line pointer is visible: not where it has none.
 pub fn shows<S: StatusSource>(source: &mut S, snapshot: &Snapshot, page: &Page, number: u16) -> bool
     requires { LiesIn (pointer_at page.now number) }
-    ensures { S.StatusSource.sound source.old → Asked (S.StatusSource.sound source.new) (S.StatusSource.meaning source.old) (S.StatusSource.meaning source.new) (result ≡ visible_slot (S.StatusSource.meaning source.old).status (data_of snapshot.now) (slot_of page.now (pointer_at page.now number))) }
+    ensures answer { result ≡ visible_slot (S.meaning source.old).status (data_of snapshot.now) (slot_of page.now (pointer_at page.now number)) }
+    ensures kept { S.meaning source.new ≡ S.meaning source.old }
 {
-    let Pointer::Normal { offset, len: _ } = pointer_at(page, number) else {
-        return false;
-    };
-    let Some(version) = version_at(page, offset) else {
+    let Some(version) = version_in(page, pointer_at(page, number)) else {
         return false;
     };
     is_visible(source, snapshot, &version)
 }
 
 // The lowest pointer of a page above `after` whose version is visible.
+#[tactic(auto, using(page_check::proofs::Slots::lies_no))]
 pub fn next_on_page<S: StatusSource>(
     source: &mut S,
     snapshot: &Snapshot,
@@ -34,15 +35,27 @@ pub fn next_on_page<S: StatusSource>(
     after: u16,
 ) -> Option<u16>
     requires { AllLie page.now }
-    ensures { S.StatusSource.sound source.old → Asked (S.StatusSource.sound source.new) (S.StatusSource.meaning source.old) (S.StatusSource.meaning source.new) (result ≡ next_on (S.StatusSource.meaning source.old).status (data_of snapshot.now) page.now after) }
+    ensures answer { result ≡ next_on (S.meaning source.old).status (data_of snapshot.now) page.now after }
+    ensures kept { S.meaning source.new ≡ S.meaning source.old }
 {
-    let count = PageHeader::read(page).pointer_count();
-    for i in after..count {
-        if shows(source, snapshot, page, i + 1) {
-            return Some(i + 1);
+    // A range, and not `pointer_numbers`: over that the loop runs by an iterator, and its invariant has no number.
+    for number in after.saturating_add(1)..pointer_count(page) + 1 {
+        if shows(source, snapshot, page, number) {
+            return Some(number);
         }
     }
     None
+}
+
+// Behind which pointer of a block the search begins: behind the address in its own block, at the start in those above.
+fn start_in(after: Address, block: u32) -> u16
+    ensures { result ≡ start_in after block }
+{
+    if block == after.block {
+        after.pointer
+    } else {
+        0
+    }
 }
 
 // The lowest address above `after` whose version is visible, over all pages.
@@ -54,17 +67,18 @@ pub fn next_address<S: StatusSource>(
 ) -> Option<Address>
     requires few { length pages.now ≤ 64 }
     requires lie { PagesLie pages.now }
-    ensures { S.StatusSource.sound source.old → Asked (S.StatusSource.sound source.new) (S.StatusSource.meaning source.old) (S.StatusSource.meaning source.new) (result ≡ next_in (S.StatusSource.meaning source.old).status (data_of snapshot.now) pages.now after) }
+    ensures answer { result ≡ next_in (S.meaning source.old).status (data_of snapshot.now) pages.now after }
+    ensures kept { S.meaning source.new ≡ S.meaning source.old }
 {
-    let mut start = after.pointer;
-    for block in after.block as usize..pages.len() {
-        if let Some(pointer) = next_on_page(source, snapshot, &pages[block], start) {
-            return Some(Address {
-                block: block as u32,
-                pointer,
-            });
+    // Not `skip`: behind it the loop runs by the iterator, and its invariant has no block.
+    for (block, page) in pages.iter().enumerate() {
+        let block = block as u32;
+        if block < after.block {
+            continue;
         }
-        start = 0;
+        if let Some(pointer) = next_on_page(source, snapshot, page, start_in(after, block)) {
+            return Some(Address { block, pointer });
+        }
     }
     None
 }

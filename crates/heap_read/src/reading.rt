@@ -1,17 +1,16 @@
 // Readings of a heap, which hand out rows as parts of its pages.
-ghost use Rattle.std.specs.Prelude.{◌≡◌, ◌≤◌, [], length};
+ghost use Rattle.std.specs.Prelude.{◌≡◌, ◌≤◌, length};
 ghost use Rattle.page.specs.LinePointers.{pointer_at};
 ghost use Rattle.page.specs.Slots.{slot_of};
 ghost use Rattle.page_check.specs.Marking.{LiesIn, PagesLie};
 ghost use Rattle.snapshot.specs.Snapshots.{data_of};
-ghost use Rattle.heap_read.specs.Asked.{Asked};
 ghost use Rattle.heap_read.specs.Links.{fetch_in};
 ghost use Rattle.heap_read.specs.Reading.{handed_out, handed, found_in, found_at, next_in};
 
 use crate::found::Found;
 use crate::links::first_visible;
 use crate::next::next_address;
-use page::{Address, Page, Pointer, pointer_at, pointer_count, row_at};
+use page::{Address, Page, Pointer, pointer_at, pointer_numbers, row_at};
 use snapshot::snapshots::Snapshot;
 use xid::source::StatusSource;
 
@@ -32,11 +31,8 @@ pub fn found_at<'a>(pages: &'a [Page], address: Address) -> Option<Found<'a>>
     requires { PagesLie pages.now }
     ensures { handed_out result ≡ found_at pages.now address }
 {
-    if address.block as usize >= pages.len() {
-        return None;
-    }
-    let page = &pages[address.block as usize];
-    if address.pointer < 1 || pointer_count(page) < address.pointer {
+    let page = pages.get(address.block as usize)?;
+    if !pointer_numbers(page).contains(&address.pointer) {
         return None;
     }
     found_on(page, address)
@@ -51,12 +47,11 @@ pub fn next_visible<'a, S: StatusSource>(
 ) -> Option<Found<'a>>
     requires few { length pages.now ≤ 64 }
     requires lie { PagesLie pages.now }
-    ensures { S.StatusSource.sound source.old → Asked (S.StatusSource.sound source.new) (S.StatusSource.meaning source.old) (S.StatusSource.meaning source.new) (handed_out result ≡ handed pages.now (next_in (S.StatusSource.meaning source.old).status (data_of snapshot.now) pages.now after)) }
+    ensures answer { handed_out result ≡ handed pages.now (next_in (S.meaning source.old).status (data_of snapshot.now) pages.now after) }
+    ensures kept { S.meaning source.new ≡ S.meaning source.old }
 {
-    match next_address(source, snapshot, pages, after) {
-        Some(address) => found_at(pages, address),
-        None => None,
-    }
+    let address = next_address(source, snapshot, pages, after)?;
+    found_at(pages, address)
 }
 
 // The first visible version of the chain of a root.
@@ -67,20 +62,10 @@ pub fn fetch_visible<'a, S: StatusSource>(
     root: Address,
 ) -> Option<Found<'a>>
     requires lie { PagesLie pages.now }
-    ensures { S.StatusSource.sound source.old → Asked (S.StatusSource.sound source.new) (S.StatusSource.meaning source.old) (S.StatusSource.meaning source.new) (handed_out result ≡ handed pages.now (fetch_in (S.StatusSource.meaning source.old).status (data_of snapshot.now) pages.now root)) }
+    ensures answer { handed_out result ≡ handed pages.now (fetch_in (S.meaning source.old).status (data_of snapshot.now) pages.now root) }
+    ensures kept { S.meaning source.new ≡ S.meaning source.old }
 {
-    if root.block as usize >= pages.len() {
-        return None;
-    }
-    let page = &pages[root.block as usize];
-    match first_visible(source, snapshot, page, root.block, root.pointer) {
-        Some(pointer) => found_at(
-            pages,
-            Address {
-                block: root.block,
-                pointer,
-            },
-        ),
-        None => None,
-    }
+    let page = pages.get(root.block as usize)?;
+    let pointer = first_visible(source, snapshot, page, root.block, root.pointer)?;
+    found_at(pages, Address { pointer, ..root })
 }

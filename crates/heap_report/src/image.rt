@@ -7,7 +7,7 @@ use std::fmt;
 pub const MAX_PAGES: u64 = 64;
 
 // Why a file is no heap image, with its size in bytes.
-#[derive(Clone, Copy)]
+#[derive(Clone, Copy, PartialEq, Eq, Debug)]
 pub enum SizeFault {
     Empty,
     BrokenPage(u64),

@@ -6,7 +6,6 @@
 #![tactic(auto)]
 
 mod image;
-mod names;
 mod page_report;
 
 pub use image::{MAX_PAGES, SizeFault, pages_in};

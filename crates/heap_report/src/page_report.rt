@@ -1,35 +1,37 @@
 // One page as text: its header, its line pointers, their versions, and whether it is lawful.
-ghost use Rattle.std.specs.Prelude.{◌≡◌};
+ghost use Rattle.std.specs.Prelude.{◌≡◌, count_by};
+ghost use Rattle.std.specs.List.{range_with_len};
+ghost use Rattle.page.specs.Headers.{count_of};
+ghost use Rattle.page.specs.LinePointers.{state_code};
 ghost use Rattle.heap_report.specs.Images.{in_state, count_in_state};
 
-use crate::names::{
-    header_rule_text, kind_name, mark_name, page_rule_text, pointer_rule_text, state_name,
-    version_rule_text,
-};
 use page::{
-    LinePointer, Mark, Page, PageHeader, State, VersionHeader, line_pointer_at, row_at, version_at,
+    Address, LinePointer, Mark, Page, PageHeader, RowKind, State, VersionHeader, line_pointer_at,
+    pointer_numbers, row_at, version_at,
 };
 use page_check::Broken;
 use std::fmt;
 
-fn is_in_state(page: &Page, code: u8, number: u16) -> bool
-    ensures { result ≡ in_state page.now code number }
+fn is_in_state(page: &Page, state: State, number: u16) -> bool
+    ensures { result ≡ in_state page.now (state_code state) number }
 {
-    line_pointer_at(page, number).state.code() == code
+    line_pointer_at(page, number).state == state
+}
+
+fn numbers_in_state(page: &Page, state: State) -> usize
+    ensures { result ≡ count_by (λ n. in_state page.now (state_code state) n) (range_with_len 1 (count_of page.now)) }
+{
+    pointer_numbers(page)
+        .filter(|number| is_in_state(page, state, *number))
+        .count()
 }
 
 // How many line pointers of a page are in a state.
+#[tactic(auto, using(page_check::proofs::Ranges::count_list, page_check::proofs::Ranges::count_small))]
 pub fn count_in_state(page: &Page, state: State) -> u16
     ensures { result ≡ count_in_state page.now state }
 {
-    let code = state.code();
-    let mut found = 0u16;
-    for i in 0..PageHeader::read(page).pointer_count() {
-        if is_in_state(page, code, i + 1) {
-            found += 1;
-        }
-    }
-    found
+    numbers_in_state(page, state) as u16
 }
 
 // A page of a block, with the rule that it breaks first.
@@ -46,8 +48,8 @@ impl fmt::Display for PageReport<'_> {
         writeln!(f, "page {block}")?;
         let header = PageHeader::read(self.page);
         write_header(&header, f)?;
-        for i in 0..header.pointer_count() {
-            write_pointer(self.page, i + 1, f)?;
+        for number in pointer_numbers(self.page) {
+            write_pointer(self.page, number, f)?;
         }
         write_verdict(self.broken, f)
     }
@@ -80,16 +82,15 @@ fn write_pointer<W: fmt::Write>(
     f: &mut fmt::Formatter<W>,
 ) -> fmt::Result {
     let at = line_pointer_at(page, number);
-    let state = state_name(at.state);
-    let offset = at.offset;
-    let len = at.len;
+    let LinePointer { offset, state, len } = at;
     writeln!(
         f,
         "  pointer {number}: {state}, offset {offset}, length {len}"
     )?;
-    match at.state {
-        State::Normal => write_version(page, at, f),
-        _ => Ok(()),
+    if state == State::Normal {
+        write_version(page, at, f)
+    } else {
+        Ok(())
     }
 }
 
@@ -112,12 +113,14 @@ fn write_version_header<W: fmt::Write>(
     version: &VersionHeader,
     f: &mut fmt::Formatter<W>,
 ) -> fmt::Result {
-    let creator = version.creator;
-    let remover = version.remover;
-    let infomask2 = version.infomask2;
-    let infomask = version.infomask;
-    let block = version.ctid.block;
-    let pointer = version.ctid.pointer;
+    let VersionHeader {
+        creator,
+        remover,
+        ctid: Address { block, pointer },
+        infomask2,
+        infomask,
+        ..
+    } = *version;
     write!(
         f,
         "    creator {creator}, remover {remover}, infomask2 0x{infomask2:04x}, infomask 0x{infomask:04x} ["
@@ -126,48 +129,37 @@ fn write_version_header<W: fmt::Write>(
     write!(f, "], ctid ({block},{pointer}), ")
 }
 
-// What the marks of the creator say: both together mean that it is frozen.
-fn creator_name(version: &VersionHeader) -> Option<&'static str> {
-    match (
-        version.has(Mark::CreatorCommitted),
-        version.has(Mark::CreatorInvalid),
-    ) {
-        (true, true) => Some("creator-frozen"),
-        (true, false) => Some(mark_name(Mark::CreatorCommitted)),
-        (false, true) => Some(mark_name(Mark::CreatorInvalid)),
-        (false, false) => None,
-    }
-}
-
-// The names of the marks that are set, with a blank between two.
+// The names of the marks that are set, with a blank between two. Both marks of the creator mean that it is frozen.
 fn write_marks<W: fmt::Write>(version: &VersionHeader, f: &mut fmt::Formatter<W>) -> fmt::Result {
-    let mut any = false;
-    if let Some(name) = creator_name(version) {
-        write!(f, "{name}")?;
-        any = true;
+    let frozen = version.has(Mark::CreatorCommitted) && version.has(Mark::CreatorInvalid);
+    let mut gap = "";
+    if frozen {
+        write!(f, "creator-frozen")?;
+        gap = " ";
     }
     for mark in [
+        Mark::CreatorCommitted,
+        Mark::CreatorInvalid,
         Mark::RemoverCommitted,
         Mark::RemoverInvalid,
         Mark::Updated,
         Mark::HotUpdated,
         Mark::HeapOnly,
     ] {
-        if version.has(mark) {
-            if any {
-                write!(f, " ")?;
-            }
-            let name = mark_name(mark);
-            write!(f, "{name}")?;
-            any = true;
+        let of_creator = matches!(mark, Mark::CreatorCommitted | Mark::CreatorInvalid);
+        if version.has(mark) && !(frozen && of_creator) {
+            write!(f, "{gap}{mark}")?;
+            gap = " ";
         }
     }
     Ok(())
 }
 
 fn write_row<W: fmt::Write>(code: u8, body: &[u8], f: &mut fmt::Formatter<W>) -> fmt::Result {
-    let name = kind_name(code);
-    write!(f, "kind {code} {name}, body ")?;
+    match RowKind::try_from(code) {
+        Ok(kind) => write!(f, "kind {code} {kind}, body ")?,
+        Err(_) => write!(f, "kind {code} unknown, body ")?,
+    }
     for byte in body {
         write!(f, "{byte:02x}")?;
     }
@@ -177,16 +169,6 @@ fn write_row<W: fmt::Write>(code: u8, body: &[u8], f: &mut fmt::Formatter<W>) ->
 fn write_verdict<W: fmt::Write>(broken: Option<Broken>, f: &mut fmt::Formatter<W>) -> fmt::Result {
     match broken {
         None => writeln!(f, "  lawful"),
-        Some(Broken::InHeader(rule)) => {
-            let text = header_rule_text(rule);
-            writeln!(f, "  unlawful in the header: broken rule: {text}")
-        }
-        Some(Broken::AtPointer(number, rule)) => write_broken(number, pointer_rule_text(rule), f),
-        Some(Broken::InVersion(number, rule)) => write_broken(number, version_rule_text(rule), f),
-        Some(Broken::Among(number, rule)) => write_broken(number, page_rule_text(rule), f),
+        Some(broken) => writeln!(f, "  unlawful {broken}"),
     }
-}
-
-fn write_broken<W: fmt::Write>(number: u16, text: &str, f: &mut fmt::Formatter<W>) -> fmt::Result {
-    writeln!(f, "  unlawful at pointer {number}: broken rule: {text}")
 }

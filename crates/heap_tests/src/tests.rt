@@ -59,15 +59,19 @@ fn put(page: &mut Page, number: u16, head: Head) {
 }
 
 fn is_unused(page: &Page, number: u16) -> bool {
-    matches!(pointer_at(page, number), Pointer::Unused)
+    pointer_at(page, number) == Pointer::Unused
 }
 
 fn leads_to(page: &Page, number: u16, target: u16) -> bool {
-    matches!(pointer_at(page, number), Pointer::Redirect(t) if t == target)
+    pointer_at(page, number) == Pointer::Redirect(target)
 }
 
 fn stands_at(page: &Page, number: u16, at: u16) -> bool {
-    matches!(pointer_at(page, number), Pointer::Normal { offset, len: 33 } if offset == at)
+    pointer_at(page, number)
+        == Pointer::Normal {
+            offset: at,
+            len: 33,
+        }
 }
 
 // 101 replaced version 1 by 2 and aborted; 102 then replaced it by 3.
@@ -78,17 +82,18 @@ fn an_aborted_update_followed_by_another(rt: HostRuntime) -> Result<(), Fail> {
     put(&mut page, 2, last(101, 2));
     put(&mut page, 3, last(102, 3));
     let mut memory = [0; 16];
+    // Not `?`, here and below: the check does not follow a `&mut` of the memory into a closure.
     let Ok(mut source) = TwoBitPages::new(&mut memory, 100) else {
         return Err(Fail::new("no source"));
     };
     end_all(&mut source, &[End::Commit, End::Abort, End::Commit]);
     let now = Active::new().snapshot(&source);
-    assert!(rt; matches!(fetch(&mut source, &now, &page, 1), Some(3)));
+    assert!(rt; fetch(&mut source, &now, &page, 1) == Some(3));
     let pruned = prune(&mut source, 103, &mut page).ok_or("not lawful")?;
     assert!(rt; pruned.removed == 2 && pruned.made_dead == 0);
     assert!(rt; leads_to(&page, 1, 3) && is_unused(&page, 2) && stands_at(&page, 3, 8152));
     assert!(rt; PageHeader::read(&page).upper == 8152);
-    assert!(rt; matches!(fetch(&mut source, &now, &page, 1), Some(3)));
+    assert!(rt; fetch(&mut source, &now, &page, 1) == Some(3));
     Ok(())
 }
 
@@ -108,14 +113,14 @@ fn a_chain_with_an_aborted_middle(rt: HostRuntime) -> Result<(), Fail> {
     let before = Active::new().snapshot(&source);
     end_all(&mut source, &[End::Commit]);
     let after = Active::new().snapshot(&source);
-    assert!(rt; matches!(fetch(&mut source, &before, &page, 1), Some(2)));
-    assert!(rt; matches!(fetch(&mut source, &after, &page, 1), Some(4)));
+    assert!(rt; fetch(&mut source, &before, &page, 1) == Some(2));
+    assert!(rt; fetch(&mut source, &after, &page, 1) == Some(4));
     let pruned = prune(&mut source, 103, &mut page).ok_or("not lawful")?;
     assert!(rt; pruned.removed == 2 && pruned.made_dead == 0);
     assert!(rt; leads_to(&page, 1, 2) && is_unused(&page, 3));
     assert!(rt; stands_at(&page, 2, 8152) && stands_at(&page, 4, 8112));
-    assert!(rt; matches!(fetch(&mut source, &before, &page, 1), Some(2)));
-    assert!(rt; matches!(fetch(&mut source, &after, &page, 1), Some(4)));
+    assert!(rt; fetch(&mut source, &before, &page, 1) == Some(2));
+    assert!(rt; fetch(&mut source, &after, &page, 1) == Some(4));
     Ok(())
 }
 
@@ -151,7 +156,7 @@ fn own_updates_in_one_transaction(rt: HostRuntime) -> Result<(), Fail> {
     end_all(&mut source, &[End::Commit]);
     let after = Active::new().snapshot(&source);
     assert!(rt; fetch(&mut source, &before, &page, 1).is_none());
-    assert!(rt; matches!(fetch(&mut source, &after, &page, 1), Some(3)));
+    assert!(rt; fetch(&mut source, &after, &page, 1) == Some(3));
     let pruned = prune(&mut source, 101, &mut page).ok_or("not lawful")?;
     assert!(rt; pruned.removed == 2 && pruned.made_dead == 0);
     assert!(rt; leads_to(&page, 1, 3) && is_unused(&page, 2) && stands_at(&page, 3, 8152));
@@ -178,7 +183,7 @@ fn a_freeze_clears_an_aborted_remover(rt: HostRuntime) -> Result<(), Fail> {
     assert!(rt; version.has(Mark::CreatorCommitted) && version.has(Mark::CreatorInvalid));
     assert!(rt; version.has(Mark::RemoverInvalid) && !version.has(Mark::HotUpdated));
     let row = [1, 7, 0, 0, 0, 0, 0, 0x48, 0x41];
-    assert!(rt; matches!(place(&mut page, 102, Origin::Insert, &row), Some(2)));
+    assert!(rt; place(&mut page, 102, Origin::Insert, &row) == Some(2));
     assert!(rt; stands_at(&page, 2, 8112) && PageHeader::read(&page).lower == 32);
     Ok(())
 }
@@ -205,7 +210,7 @@ fn a_deleted_row_leaves_a_dead_pointer(rt: HostRuntime) -> Result<(), Fail> {
     assert!(rt; kept.removed == 0 && stands_at(&page, 1, 8152));
     let pruned = prune(&mut source, 102, &mut page).ok_or("not lawful")?;
     assert!(rt; pruned.removed == 1 && pruned.made_dead == 1);
-    assert!(rt; matches!(pointer_at(&page, 1), Pointer::Dead));
+    assert!(rt; pointer_at(&page, 1) == Pointer::Dead);
     assert!(rt; PageHeader::read(&page).upper == 8192);
     Ok(())
 }

@@ -1,51 +1,67 @@
 -- One version changed, and one more.
-use Rattle.std.proofs.Common.{◌≡◌, ℕ, ◌+◌, Bool, true, false, cond, leb, List, Some, None, sym, refl, ap, ◌∙◌, add-one, arith}
-use Rattle.std.proofs.lemmas.Bool.{cond-true}
+use Rattle.std.proofs.Common.{◌≡◌, ℕ, ◌+◌, ◌-◌, ◌≤◌, Bool, true, false, cond, leb, List, Some, None, suc, refl, ap, ◌∙◌, arith}
+use Rattle.std.specs.Int.{from_bool}
+use Rattle.std.specs.Option.{option_map}
 use Rattle.page.specs.LinePointers.{pointer_at}
 use Rattle.page.specs.Slots.{Version, decoded}
-use Rattle.page.specs.Versions.{header_at, version_at, row_of}
-use Rattle.page.specs.declared.line_pointers.Pointer.TheVariants.{Normal}
+use Rattle.page.specs.Versions.{header_at, row_of}
+use Rattle.page.specs.declared.line_pointers.Pointer.{Pointer}
+use Rattle.page.specs.declared.line_pointers.Pointer.TheVariants.{Unused, Normal, Redirect, Dead}
 use Rattle.page.specs.declared.versions.VersionHeader.{VersionHeader}
 use Rattle.page_write.specs.Changing.{rewrite, change_at, change_version, change_to}
 use Rattle.page_write.specs.Fields.{encoded}
 use Rattle.xid.specs.Meaning.{Meaning}
-use Rattle.heap_upkeep.specs.Along.{per_version, count_along}
+use Rattle.heap_upkeep.specs.Along.{one, per_version, count_along}
+use Rattle.page.specs.Slots.{place_in}
 
-no_some : (v : VersionHeader) → Some v ≡ None → ⊥
-no_some v e = let z : ◌≡◌ {A = ℕ} 0 1 = cc in omega arith
+-- a yes as a number
+pub one_from : (b : Bool) → from_bool b ≡ one b
+one_from true = refl
+one_from false = refl
 
-there : (b : Bool) (v w : VersionHeader) → Some v ≡ cond b (Some w) None → (b ≡ true) × (v ≡ w)
-there true v w e = (refl, cc)
-there false v w e = absurd (no_some v e)
+-- where a version z stands: its offset is that of the pointer, and its header is there
+there : (b : Bool) (o : ℕ) (v : VersionHeader) (z : ℕ × VersionHeader) → Some z ≡ option_map (λ w. (o, w)) (cond b (Some v) None) → (b ≡ true) × (z ≡ (o, v))
+there true o v z e = (refl, cc)
+there false o v z e = cc
 
--- a version that stands at a pointer
-module _ (p : List ℕ) (number o len : ℕ) (v : VersionHeader) (at : Normal o len ≡ pointer_at p number) (got : Some v ≡ version_at p o) where
-  inside : leb (o + 24) 8192 ≡ true
-  inside = (there (leb (o + 24) 8192) v (header_at p o) got).0
-
-  pub header_is : v ≡ header_at p o
-  header_is = (there (leb (o + 24) 8192) v (header_at p o) got).1
-
+module _ (p : List ℕ) (z : ℕ × VersionHeader) where
   -- it is changed by f, where the header that is written is that of its change
-  pub changed_one : (f : Version → Version) (h : VersionHeader) (q : List ℕ)
-      → h ≡ encoded (f (decoded (header_at p o) (row_of p o len))) → q ≡ rewrite p o h → q ≡ change_version f p number
-  changed_one f h q head wrote =
-      wrote ∙ ap (rewrite p o) head
-      ∙ sym (cond-true (leb (o + 24) 8192) (rewrite p o (encoded (f (decoded (header_at p o) (row_of p o len))))) p inside)
-      ∙ ap (change_at f p) at
+  changed_at : (x : Pointer) → Some z ≡ place_in p x → (f : Version → Version) (h : VersionHeader) → ((row : List ℕ) → h ≡ encoded (f (decoded z.1 row))) → rewrite p z.0 h ≡ change_at f p x
+  changed_at Unused e f h same = cc
+  changed_at (Redirect t) e f h same = cc
+  changed_at Dead e f h same = cc
+  changed_at (Normal o n) e f h same =
+      let w = there (leb (o + 24) 8192) o (header_at p o) z e in
+      rw (w.0, same (row_of p o n), w.1) refl
 
   -- and counted by b
-  pub counted_one : (b : Version → ℕ) (r : ℕ) → r ≡ b (decoded (header_at p o) (row_of p o len)) → r ≡ per_version b p (pointer_at p number)
-  counted_one b r e = e ∙ sym (cond-true (leb (o + 24) 8192) (b (decoded (header_at p o) (row_of p o len))) 0 inside) ∙ ap (per_version b p) at
+  counted_at : (x : Pointer) → Some z ≡ place_in p x → (b : Version → ℕ) (r : ℕ) → ((row : List ℕ) → r ≡ b (decoded z.1 row)) → r ≡ per_version b p x
+  counted_at Unused e b r same = cc
+  counted_at (Redirect t) e b r same = cc
+  counted_at Dead e b r same = cc
+  counted_at (Normal o n) e b r same =
+      let w = there (leb (o + 24) 8192) o (header_at p o) z e in
+      rw (w.0, same (row_of p o n), w.1) refl
+
+module _ (p : List ℕ) (number o : ℕ) (v : VersionHeader) (stands : Some (o, v) ≡ place_in p (pointer_at p number)) where
+  pub changed_one : (f : Version → Version) (h : VersionHeader) (q : List ℕ) → ((row : List ℕ) → h ≡ encoded (f (decoded v row))) → q ≡ rewrite p o h → q ≡ change_version f p number
+  changed_one f h q same wrote = wrote ∙ changed_at p (o, v) (pointer_at p number) stands f h same
+
+  pub counted_one : (b : Version → ℕ) (r : ℕ) → ((row : List ℕ) → r ≡ b (decoded v row)) → r ≡ per_version b p (pointer_at p number)
+  counted_one = counted_at p (o, v) (pointer_at p number) stands
 
 -- one pointer more, with a source that means the same
-module _ (F : Meaning → Version → Version) (m n : Meaning) (p q : List ℕ) (i : ℕ) (kept : n ≡ m) (page : q ≡ change_to (F m) p i) where
-  pub changed_more : (q' : List ℕ) → q' ≡ change_version (F n) q (i + 1) → q' ≡ change_to (F m) p (i + 1)
+module _ (F : Meaning → Version → Version) (m n : Meaning) (p q : List ℕ) (i : ℕ) (first : 1 ≤ i) (kept : n ≡ m) (page : q ≡ change_to (F m) p (i - 1)) where
+  pub changed_more : (q' : List ℕ) → q' ≡ change_version (F n) q i → q' ≡ change_to (F m) p (i + 1 - 1)
   changed_more q' e =
-      rw add-one (e ∙ ap (λ (x : Meaning). change_version (F x) q (i + 1)) kept ∙ ap (λ (x : List ℕ). change_version (F m) x (i + 1)) page)
+      let a : i + 1 - 1 ≡ suc (i - 1) = omega arith in
+      let b : i - 1 + 1 ≡ i = omega arith in
+      rw (a, b) (e ∙ ap (λ (x : Meaning). change_version (F x) q i) kept ∙ ap (λ (x : List ℕ). change_version (F m) x i) page)
 
-  pub counted_more : (B : Meaning → Version → ℕ) (s r : ℕ) → s ≡ count_along (B m) (F m) p i → r ≡ per_version (B n) q (pointer_at q (i + 1)) → s + r ≡ count_along (B m) (F m) p (i + 1)
+  pub counted_more : (B : Meaning → Version → ℕ) (s r : ℕ) → s ≡ count_along (B m) (F m) p (i - 1) → r ≡ per_version (B n) q (pointer_at q i) → s + r ≡ count_along (B m) (F m) p (i + 1 - 1)
   counted_more B s r h e =
-      rw add-one (ap (λ (x : ℕ). x + r) h
-      ∙ ap (λ (x : ℕ). count_along (B m) (F m) p i + x)
-      (e ∙ ap (λ (x : Meaning). per_version (B x) q (pointer_at q (i + 1))) kept ∙ ap (λ (x : List ℕ). per_version (B m) x (pointer_at x (i + 1))) page))
+      let a : i + 1 - 1 ≡ suc (i - 1) = omega arith in
+      let b : i - 1 + 1 ≡ i = omega arith in
+      rw (a, b) (ap (λ (x : ℕ). x + r) h
+      ∙ ap (λ (x : ℕ). count_along (B m) (F m) p (i - 1) + x)
+      (e ∙ ap (λ (x : Meaning). per_version (B x) q (pointer_at q i)) kept ∙ ap (λ (x : List ℕ). per_version (B m) x (pointer_at x i)) page))

@@ -1,11 +1,11 @@
 -- Hints and the marks of freeze name no more than before.
 use Rattle.std.proofs.Common.{◌≡◌, ℕ, ◌<◌, Bool, true, false, cond, not, ◌&&◌, ◌||◌, eqb, leb, refl, arith}
-use Rattle.std.proofs.lemmas.Bool.{both_ways, and_parts}
+use Rattle.std.proofs.lemmas.Bool.{and_parts, not-true}
 use Rattle.page.specs.Slots.{Version}
 use Rattle.page_write_laws.specs.Slots.{Replaces, Milder}
 use Rattle.xid.specs.Numbers.{precedes}
 use Rattle.xid.specs.declared.statuses.Status.{Status}
-use Rattle.xid.specs.declared.statuses.Status.TheVariants.{Open, Committed, Aborted, Unknown}
+use Rattle.xid.specs.declared.statuses.Status.TheVariants.{Unknown}
 use Rattle.heap_read.specs.Fates.{remover_fate, remover_by_status}
 use Rattle.heap_read.specs.Links.{is_none}
 use Rattle.heap_read.specs.declared.fates.RemoverFate.TheVariants as remover
@@ -15,23 +15,11 @@ use Rattle.heap_upkeep.specs.Freezing.{to_clear, frozen_at}
 -- news of a remover never gives it both bits
 one_bit_lem : (z a b : Bool) (s : Status) → (a && b) ≡ false
     → ((a || is_committed (cond (z || a || b) Unknown s)) && (b || is_aborted (cond (z || a || b) Unknown s))) ≡ false
-one_bit_lem z true true s h = absurd (both_ways true h refl)
-one_bit_lem true true false s h = refl
-one_bit_lem false true false s h = refl
-one_bit_lem true false true s h = refl
-one_bit_lem false false true s h = refl
-one_bit_lem true false false s h = refl
-one_bit_lem false false false Open h = refl
-one_bit_lem false false false Committed h = refl
-one_bit_lem false false false Aborted h = refl
-one_bit_lem false false false Unknown h = refl
+one_bit_lem z a b s h = grind arith
 
 -- a bit more keeps the rule on the remover's number
 number_more : (a z b x : Bool) → (a || (z && b)) ≡ true → (a || (z && (b || x))) ≡ true
-number_more true z b x h = refl
-number_more false true true x h = refl
-number_more false true false x h = absurd (both_ways false refl h)
-number_more false false b x h = absurd (both_ways false refl h)
+number_more a z b x h = grind arith
 
 pub hinted_milder : (told : ℕ → Status) (u : Version) → Replaces u u → Milder u (hinted told u)
 hinted_milder told u r = record {
@@ -51,42 +39,26 @@ hinted_milder told u r = record {
 
 -- a remover that is cleared had no committed bit
 fate_none : (z a b : Bool) (s : Status) → (a && b) ≡ false → z ≡ false → is_none (cond (z || b) remover.None (cond a remover.Committed (remover_by_status s))) ≡ true → a ≡ false
-fate_none true a b s h zf n = absurd (both_ways true zf refl)
-fate_none false false b s h zf n = refl
-fate_none false true true s h zf n = absurd (both_ways true h refl)
-fate_none false true false s h zf n = absurd (both_ways false refl n)
-
-not_zero : (z : Bool) → not z ≡ true → z ≡ false
-not_zero false h = refl
-not_zero true h = absurd (both_ways false refl h)
+fate_none z a b s h zf n = grind arith
 
 cleared_bit : (told : ℕ → Status) (c : ℕ) (u : Version) → (u.remover_committed && u.remover_invalid) ≡ false → to_clear told c u ≡ true → u.remover_committed ≡ false
 cleared_bit told c u h e =
     let one = and_parts (not (eqb u.remover 0) && is_none (remover_fate told u)) (precedes u.remover c) e in
     let two = and_parts (not (eqb u.remover 0)) (is_none (remover_fate told u)) one.0 in
-    fate_none (eqb u.remover 0) u.remover_committed u.remover_invalid (told u.remover) h (not_zero (eqb u.remover 0) two.0) two.1
+    fate_none (eqb u.remover 0) u.remover_committed u.remover_invalid (told u.remover) h (not-true (eqb u.remover 0) two.0) two.1
 
 -- the rules on a remover, where it is cleared or not
 mark_bit : (a b x : Bool) → (a && b) ≡ false → (x ≡ true → a ≡ false) → (a && (b || x)) ≡ false
-mark_bit false b x h k = refl
-mark_bit true true x h k = absurd (both_ways true h refl)
-mark_bit true false false h k = refl
-mark_bit true false true h k = absurd (both_ways true (k refl) refl)
+mark_bit a b x h k = grind arith
 
 mark_number : (x b : Bool) (n : ℕ) → (leb 3 n || (eqb n 0 && b)) ≡ true → (leb 3 (cond x 0 n) || (eqb (cond x 0 n) 0 && (b || x))) ≡ true
-mark_number false b n h = number_more (leb 3 n) (eqb n 0) b false h
-mark_number true true n h = refl
-mark_number true false n h = refl
+mark_number x b n h = grind arith
 
 mark_small : (x : Bool) (n : ℕ) → n < 4294967296 → cond x 0 n < 4294967296
-mark_small true n h = omega arith
-mark_small false n h = h
+mark_small x n h = grind arith
 
 mark_hot : (x hot : Bool) (n : ℕ) → (hot && not x) ≡ true → (hot ≡ true) × (cond x 0 n ≡ n)
-mark_hot false true n h = (refl, refl)
-mark_hot false false n h = absurd (both_ways false refl h)
-mark_hot true true n h = absurd (both_ways false refl h)
-mark_hot true false n h = absurd (both_ways false refl h)
+mark_hot x hot n h = (grind arith, grind arith)
 
 pub frozen_milder : (told : ℕ → Status) (c : ℕ) (u : Version) → Replaces u u → Milder u (frozen_at told c u)
 frozen_milder told c u r = record {

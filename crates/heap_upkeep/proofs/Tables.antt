@@ -1,5 +1,5 @@
 -- Tables by pointer number, filled one number after the other.
-use Rattle.std.proofs.Common.{◌≡◌, ℕ, ◌+◌, ◌<◌, ◌≤◌, cond, ◌&&◌, leb, ◌⊎◌, List, length, get_or, set, replicate, sym, ap, ◌∙◌, subst, inl, inr, ⊎_elim, arith}
+use Rattle.std.proofs.Common.{◌≡◌, ℕ, ◌+◌, ◌<◌, ◌≤◌, cond, ◌&&◌, leb, ◌⊎◌, List, length, get_or, set, replicate, sym, ap, ◌∙◌, inl, inr, ⊎_elim, arith}
 use Rattle.std.proofs.lemmas.List.{get_or-replicate, get_or_past, length-replicate, get_or-set_same, get_or-set_other}
 use Rattle.std.proofs.lemmas.Bool.{and_from, and_left, and_right, le-leb, lt-leb, cond-true, cond-false, cases_lt, cases_eq}
 use Rattle.page.specs.Headers.{count_of}
@@ -8,8 +8,6 @@ use Rattle.page.specs.Slots.{Slot, slot_of, slot_no}
 use Rattle.page.specs.Slots.Slot.{unused}
 use Rattle.page_check.proofs.Slots.{slot_no_in, slot_no_past}
 use Rattle.xid.specs.Meaning.{Meaning}
-use Rattle.heap_read.specs.Links.{LeadsAlong}
-use Rattle.heap_upkeep.specs.Dead.{AlongNames}
 
 -- the table has f at the numbers 1 to i, and d elsewhere
 abbrev pub Filled : {X : Type 0} → (ℕ → X) → X → ℕ → List X → Type 0
@@ -33,22 +31,22 @@ module _ {X : Type 0} (f : ℕ → X) (d : X) where
       ∙ ⊎_elim (λ (e : n ≡ 0). outside (f n) d 0 n (inl e)) (λ (e : n ≡ 0 → ⊥). outside (f n) d 0 n (inr (omega arith))) (cases_eq n 0)
 
   -- one number more
-  pub filled_more : (i : ℕ) (t : List X) (x : X) → length t ≡ 292 → i < 291 → Filled f d i t → x ≡ f (i + 1) → Filled f d (i + 1) (set t (i + 1) x)
-  filled_more i t x len few h e n =
+  pub filled_more : (i j : ℕ) (t : List X) (x : X) → j ≡ i + 1 → length t ≡ 292 → j ≤ 291 → Filled f d i t → x ≡ f j → Filled f d j (set t j x)
+  filled_more i j t x more len few h e n =
       ⊎_elim
-      (λ (q : n ≡ i + 1).
-      ap (λ (k : ℕ). get_or (set t (i + 1) x) k d) q ∙ get_or-set_same t (i + 1) x d (omega arith) ∙ e ∙ ap f (sym q)
-      ∙ inside (f n) d (i + 1) n (omega arith) (omega arith))
-      (λ (q : n ≡ i + 1 → ⊥).
-      get_or-set_other t (i + 1) n x d q ∙ h n
+      (λ (q : n ≡ j).
+      ap (λ (k : ℕ). get_or (set t j x) k d) q ∙ get_or-set_same t j x d (omega arith) ∙ e ∙ ap f (sym q)
+      ∙ inside (f n) d j n (omega arith) (omega arith))
+      (λ (q : n ≡ j → ⊥).
+      get_or-set_other t j n x d q ∙ h n
       ∙ ⊎_elim
       (λ (l : n ≤ i). ⊎_elim
-      (λ (z : n ≡ 0). sym (outside (f n) d i n (inl z)) ∙ outside (f n) d (i + 1) n (inl z))
-      (λ (z : n ≡ 0 → ⊥). sym (inside (f n) d i n (omega arith) l) ∙ inside (f n) d (i + 1) n (omega arith) (omega arith))
+      (λ (z : n ≡ 0). sym (outside (f n) d i n (inl z)) ∙ outside (f n) d j n (inl z))
+      (λ (z : n ≡ 0 → ⊥). sym (inside (f n) d i n (omega arith) l) ∙ inside (f n) d j n (omega arith) (omega arith))
       (cases_eq n 0))
-      (λ (l : i < n). sym (outside (f n) d i n (inr l)) ∙ outside (f n) d (i + 1) n (inr (omega arith)))
+      (λ (l : i < n). sym (outside (f n) d i n (inr l)) ∙ outside (f n) d j n (inr (omega arith)))
       (⊎_elim (λ (l : n < i + 1). inl (omega arith)) (λ (l : i + 1 ≤ n). inr (omega arith)) (cases_lt n (i + 1))))
-      (cases_eq n (i + 1))
+      (cases_eq n j)
 
 -- a table over the slots of a page, once all pointers are through
 pub filled_page : {X : Type 0} (F : Slot → X) (d : X) (p : List ℕ) (i : ℕ) (t : List X) → F unused ≡ d → i ≡ count_of p
@@ -67,39 +65,3 @@ filled_page F d p i t e same h n =
 pub slot_told : {X : Type 0} (F : Meaning → Slot → X) (m n : Meaning) (p : List ℕ) (i : ℕ) (r : X) → n ≡ m → 1 ≤ i → i ≤ count_of p
     → r ≡ F n (slot_of p (pointer_at p i)) → r ≡ F m (slot_no p i)
 slot_told F m n p i r e a b h = h ∙ ap (λ (x : Meaning). F x (slot_of p (pointer_at p i))) e ∙ ap (F m) (sym (slot_no_in p i a b))
-
--- A table that leads along the names of a page.
-
-pub record AlongTo (b : ℕ) (p : List ℕ) (i : ℕ) (t : List ℕ) : Type 0 where
-  pub named : (n : ℕ) → 1 ≤ n → n ≤ i → LeadsAlong b (slot_no p) (slot_no p n) (get_or t n 0)
-  pub zero_first : get_or t 0 0 ≡ 0
-  pub zero_past : (n : ℕ) → i < n → get_or t n 0 ≡ 0
-
-module _ (b : ℕ) (p : List ℕ) where
-  pub along_none : AlongTo b p 0 (replicate 292 0)
-  along_none = record {
-    named = λ n x y. absurd (omega arith);
-    zero_first = get_or-replicate 292 0 0 0 (omega arith);
-    zero_past = λ n l. ⊎_elim (λ (x : n < 292). get_or-replicate 292 n 0 0 x) (λ (x : 292 ≤ n). get_or_past (replicate 292 0) n 0 (omega (arith, length-replicate {A = ℕ} 292 0))) (cases_lt n 292);
-  }
-
-  pub along_more : (i : ℕ) (t : List ℕ) (x : ℕ) → length t ≡ 292 → i < 291 → AlongTo b p i t → LeadsAlong b (slot_no p) (slot_no p (i + 1)) x → AlongTo b p (i + 1) (set t (i + 1) x)
-  along_more i t x len few h e = record {
-    named = λ n a c.
-        ⊎_elim
-        (λ (q : n ≡ i + 1). rw q (rw (get_or-set_same t (i + 1) x 0 (omega arith)) e))
-        (λ (q : n ≡ i + 1 → ⊥). rw (get_or-set_other t (i + 1) n x 0 q) (h.named n a (omega arith)))
-        (cases_eq n (i + 1));
-    zero_first = let ne : 0 ≡ i + 1 → ⊥ = λ q. omega arith in get_or-set_other t (i + 1) 0 x 0 ne ∙ h.zero_first;
-    zero_past = λ n l. let ne : n ≡ i + 1 → ⊥ = λ q. omega arith in get_or-set_other t (i + 1) n x 0 ne ∙ h.zero_past n (omega arith);
-  }
-
-  pub along_all : (i : ℕ) (t : List ℕ) → i ≡ count_of p → AlongTo b p i t → AlongNames b p t
-  along_all i t same h n =
-      ⊎_elim
-      (λ (z : n ≡ 0). rw z h.zero_first)
-      (λ (z : n ≡ 0 → ⊥). ⊎_elim
-      (λ (l : i < n). subst (λ (s : Slot). LeadsAlong b (slot_no p) s (get_or t n 0)) (sym (slot_no_past p n (omega arith))) (h.zero_past n l))
-      (λ (l : n ≤ i). h.named n (omega arith) l)
-      (cases_lt i n))
-      (cases_eq n 0)

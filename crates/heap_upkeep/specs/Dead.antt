@@ -1,11 +1,13 @@
--- Dead versions, and the tables by which a page is pruned.
-use Rattle.std.specs.Prelude.{◌≡◌, ℕ, Bool, true, false, ◌&&◌, ◌||◌, List, slice_index, slice_index_or}
+-- Dead versions, and the table by which a page is pruned.
+use Rattle.std.specs.Prelude.{◌≡◌, ℕ, Bool, true, false, ◌&&◌, ◌||◌, List, slice_index_or}
 use Rattle.page.specs.Slots.{Version, Slot, slot_no}
 use Rattle.page.specs.Slots.Slot.{unused, dead, redirect, holds}
+use Rattle.page_prune.specs.Members.{no_member}
+use Rattle.page_prune.specs.declared.chains.Member.{Member}
 use Rattle.xid.specs.Numbers.{precedes}
 use Rattle.xid.specs.declared.statuses.Status.{Status}
 use Rattle.heap_read.specs.Fates.{creator_fate, remover_fate}
-use Rattle.heap_read.specs.Links.{is_aborted, link_at, LeadsAlong}
+use Rattle.heap_read.specs.Links.{is_aborted, link_in}
 use Rattle.heap_read.specs.declared.fates.CreatorFate.{CreatorFate}
 use Rattle.heap_read.specs.declared.fates.CreatorFate.TheVariants as creator
 use Rattle.heap_read.specs.declared.fates.RemoverFate.{RemoverFate}
@@ -37,14 +39,10 @@ dead_slot told h dead = false
 dead_slot told h (redirect t) = false
 dead_slot told h (holds v) = is_dead told h v
 
--- a table of links has at each number what its slot links to
-abbrev pub Links : (ℕ → Status) → ℕ → List ℕ → List ℕ → Type 0
-Links told b p table = (n : ℕ) → slice_index table n ≡ link_at told b p n
+-- what a slot links to, and whether its version is dead
+abbrev pub member_of : (ℕ → Status) → ℕ → ℕ → (ℕ → Slot) → Slot → Member
+member_of told h b slot s = record { next = link_in told b slot s; dead = dead_slot told h s }
 
--- whatever a source says, it leads along the names of the page
-abbrev pub AlongNames : ℕ → List ℕ → List ℕ → Type 0
-AlongNames b p table = (n : ℕ) → LeadsAlong b (slot_no p) (slot_no p n) (slice_index table n)
-
--- a table of the dead says at each number whether its version is dead
-abbrev pub DeadOnes : (ℕ → Status) → ℕ → List ℕ → List Bool → Type 0
-DeadOnes told h p table = (n : ℕ) → slice_index_or table n false ≡ dead_slot told h (slot_no p n)
+-- the table has that of each number
+abbrev pub TellsMembers : (ℕ → Status) → ℕ → ℕ → List ℕ → List Member → Type 0
+TellsMembers told h b p table = (n : ℕ) → slice_index_or table n no_member ≡ member_of told h b (slot_no p) (slot_no p n)

@@ -2,53 +2,42 @@
 // forget their numbers.
 ghost use Rattle.std.specs.Prelude.{◌≡◌, ◌≤◌, []};
 ghost use Rattle.page.specs.Headers.{count_of};
-ghost use Rattle.page.specs.LinePointers.{pointer_at};
 ghost use Rattle.page.specs.Slots.{decoded};
-ghost use Rattle.page_write.specs.Changing.{change_version};
 ghost use Rattle.page_write.specs.Fields.{version_of};
-ghost use Rattle.heap_read.specs.Asked.{Asked};
-ghost use Rattle.heap_upkeep.specs.Along.{one, per_version};
 ghost use Rattle.heap_upkeep.specs.Pruning.{LawfulOn, Freezes};
-ghost use Rattle.heap_upkeep.specs.Freezing.{is_plain, to_freeze, to_clear, with_marks, frozen_at, marked_page, frozen_count, cleared_count, Marked, Marks};
+ghost use Rattle.heap_upkeep.specs.Freezing.{to_freeze, to_clear, with_marks, Marked, Marks};
 
 use crate::prune::prune_at;
-use heap_read::fates::{CreatorFate, creator_fate, remover_fate};
-use page::{Page, Pointer, VersionHeader, pointer_at, pointer_count, version_at};
+use heap_read::fates::{CreatorFate, RemoverFate, creator_fate, remover_fate};
+use page::{Page, VersionHeader, pointer_count, version_place};
 use page_prune::PruneCount;
 use page_write::{VersionFields, rewrite_header};
 use xid::numbers::precedes;
 use xid::source::StatusSource;
 
 // How many creators were frozen, and how many removers cleared.
-#[derive(Clone, Copy)]
+#[derive(Clone, Copy, PartialEq, Eq, Debug, Default)]
 pub struct MarkCount {
     pub frozen: u16,
     pub cleared: u16,
 }
 
-fn is_plain(fate: CreatorFate) -> bool
-    ensures { result ≡ is_plain fate }
-{
-    match fate {
-        CreatorFate::Committed => true,
-        _ => false,
-    }
-}
-
 // Whether a version's creator is to be frozen: it is committed, not frozen yet, and precedes the cutoff.
 fn is_to_freeze<S: StatusSource>(source: &mut S, cutoff: u32, version: &VersionHeader) -> bool
-    ensures { S.StatusSource.sound source.old → Asked (S.StatusSource.sound source.new) (S.StatusSource.meaning source.old) (S.StatusSource.meaning source.new) (result ≡ to_freeze (S.StatusSource.meaning source.old).status cutoff (decoded version.now [])) }
+    ensures answer { result ≡ to_freeze (S.meaning source.old).status cutoff (decoded version.now []) }
+    ensures kept { S.meaning source.new ≡ S.meaning source.old }
 {
-    let creator = creator_fate(source, version);
-    is_plain(creator) && precedes(version.creator, cutoff)
+    creator_fate(source, version) == CreatorFate::Committed && precedes(version.creator, cutoff)
 }
 
 // Whether a version's remover is to be cleared: there is a number, it removed nothing, and it precedes the cutoff.
 fn is_to_clear<S: StatusSource>(source: &mut S, cutoff: u32, version: &VersionHeader) -> bool
-    ensures { S.StatusSource.sound source.old → Asked (S.StatusSource.sound source.new) (S.StatusSource.meaning source.old) (S.StatusSource.meaning source.new) (result ≡ to_clear (S.StatusSource.meaning source.old).status cutoff (decoded version.now [])) }
+    ensures answer { result ≡ to_clear (S.meaning source.old).status cutoff (decoded version.now []) }
+    ensures kept { S.meaning source.new ≡ S.meaning source.old }
 {
-    let remover = remover_fate(source, version);
-    version.remover != 0 && remover.is_none() && precedes(version.remover, cutoff)
+    version.remover != 0
+        && remover_fate(source, version) == RemoverFate::None
+        && precedes(version.remover, cutoff)
 }
 
 fn with_marks(fields: VersionFields, freeze: bool, clear: bool) -> VersionFields
@@ -64,58 +53,43 @@ fn with_marks(fields: VersionFields, freeze: bool, clear: bool) -> VersionFields
     }
 }
 
-fn count_if(yes: bool) -> u16
-    ensures value { result ≡ one yes }
-    ensures small { result ≤ 1 }
-{
-    if yes { 1 } else { 0 }
-}
-
 // Marks the version of one line pointer.
 fn mark_one<S: StatusSource>(source: &mut S, cutoff: u32, page: &mut Page, number: u16) -> MarkCount
     ensures few { (result.frozen ≤ 1) × (result.cleared ≤ 1) }
-    ensures marks { S.StatusSource.sound source.old → Asked (S.StatusSource.sound source.new) (S.StatusSource.meaning source.old) (S.StatusSource.meaning source.new) (Marked (S.StatusSource.meaning source.old).status cutoff page.old number page.new result.frozen result.cleared) }
+    ensures marks { Marked (S.meaning source.old).status cutoff page.old number page.new result.frozen result.cleared }
+    ensures kept { S.meaning source.new ≡ S.meaning source.old }
 {
-    let Pointer::Normal { offset, len: _ } = pointer_at(page, number) else {
-        return MarkCount {
-            frozen: 0,
-            cleared: 0,
-        };
-    };
-    let Some(version) = version_at(page, offset) else {
-        return MarkCount {
-            frozen: 0,
-            cleared: 0,
-        };
+    let Some((offset, version)) = version_place(page, number) else {
+        return MarkCount::default();
     };
     let freeze = is_to_freeze(source, cutoff, &version);
     let clear = is_to_clear(source, cutoff, &version);
-    let fields = with_marks(VersionFields::decode(&version), freeze, clear);
-    rewrite_header(page, offset, &fields.encode());
+    let fields = with_marks(VersionFields::from(&version), freeze, clear);
+    rewrite_header(page, offset, &fields.into());
     MarkCount {
-        frozen: count_if(freeze),
-        cleared: count_if(clear),
+        frozen: u16::from(freeze),
+        cleared: u16::from(clear),
     }
 }
 
 // Marks all versions of a page for a cutoff, as freeze does once the page is pruned.
 pub fn mark_page<S: StatusSource>(source: &mut S, cutoff: u32, page: &mut Page) -> MarkCount
     requires { count_of page.old ≤ 291 }
-    ensures { S.StatusSource.sound source.old → Asked (S.StatusSource.sound source.new) (S.StatusSource.meaning source.old) (S.StatusSource.meaning source.new) (Marks (S.StatusSource.meaning source.old).status cutoff page.old page.new result.frozen result.cleared) }
+    ensures marks { Marks (S.meaning source.old).status cutoff page.old page.new result.frozen result.cleared }
+    ensures kept { S.meaning source.new ≡ S.meaning source.old }
 {
-    let count = pointer_count(page);
-    let mut frozen = 0;
-    let mut cleared = 0;
-    for i in 0..count {
-        let one = mark_one(source, cutoff, page, i + 1);
-        frozen += one.frozen;
-        cleared += one.cleared;
+    let mut count = MarkCount::default();
+    // A range, and not `pointer_numbers`: over that the loop runs by an iterator, and its invariant has no number.
+    for number in 1..pointer_count(page) + 1 {
+        let one = mark_one(source, cutoff, page, number);
+        count.frozen += one.frozen;
+        count.cleared += one.cleared;
     }
-    MarkCount { frozen, cleared }
+    count
 }
 
 // What freeze answers: what its prune did, and its marks.
-#[derive(Clone, Copy)]
+#[derive(Clone, Copy, PartialEq, Eq, Debug)]
 pub struct FreezeCount {
     pub pruned: PruneCount,
     pub marked: MarkCount,
@@ -130,7 +104,8 @@ pub fn freeze_at<S: StatusSource>(
     block: u32,
 ) -> FreezeCount
     requires { LawfulOn block page.old }
-    ensures { S.StatusSource.sound source.old → Asked (S.StatusSource.sound source.new) (S.StatusSource.meaning source.old) (S.StatusSource.meaning source.new) (Freezes (S.StatusSource.meaning source.old).status horizon cutoff block page.old page.new result.pruned.removed result.pruned.made_dead result.marked.frozen result.marked.cleared) }
+    ensures told { Freezes (S.meaning source.old).status horizon cutoff block page.old page.new result.pruned.removed result.pruned.made_dead result.marked.frozen result.marked.cleared }
+    ensures kept { S.meaning source.new ≡ S.meaning source.old }
 {
     let pruned = prune_at(source, horizon, page, block);
     let marked = mark_page(source, cutoff, page);

@@ -1,20 +1,14 @@
 // What upkeep means for the slots of a page, and that a lawful page stays lawful: specs/Laws.antt has the statements.
 ghost use Rattle.heap_upkeep.specs.Laws.{HintLaw, MarksLaw, FreezeLaw};
 
-pub fn hint_law() -> u8
+pub fn hint_law()
     ensures { HintLaw }
-{
-    0
-}
+{}
 
-pub fn marks_law() -> u8
+pub fn marks_law()
     ensures { MarksLaw }
-{
-    0
-}
+{}
 
-pub fn freeze_law() -> u8
+pub fn freeze_law()
     ensures { FreezeLaw }
-{
-    0
-}
+{}

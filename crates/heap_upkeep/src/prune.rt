@@ -1,10 +1,9 @@
 // Pruning of a page at a horizon.
 ghost use Rattle.std.specs.Prelude.{◌≡◌, ◌≤◌};
 ghost use Rattle.page.specs.Headers.{count_of};
-ghost use Rattle.heap_read.specs.Asked.{Asked};
 ghost use Rattle.heap_upkeep.specs.Pruning.{LawfulOn, Prunes};
 
-use crate::dead::{dead_ones, links_of};
+use crate::dead::members_of;
 use page::Page;
 use page_prune::{PruneCount, prune_page};
 use xid::source::StatusSource;
@@ -20,9 +19,9 @@ pub fn prune_at<S: StatusSource>(
     requires { LawfulOn block page.old }
     ensures lawful { LawfulOn block page.new }
     ensures few { count_of page.new ≤ 291 }
-    ensures told { S.StatusSource.sound source.old → Asked (S.StatusSource.sound source.new) (S.StatusSource.meaning source.old) (S.StatusSource.meaning source.new) (Prunes (S.StatusSource.meaning source.old).status horizon block page.old page.new result.removed result.made_dead) }
+    ensures told { Prunes (S.meaning source.old).status horizon block page.old page.new result.removed result.made_dead }
+    ensures kept { S.meaning source.new ≡ S.meaning source.old }
 {
-    let next = links_of(source, page, block);
-    let dead = dead_ones(source, page, horizon);
-    prune_page(page, &next, &dead)
+    let members = members_of(source, page, block, horizon);
+    prune_page(page, &members)
 }

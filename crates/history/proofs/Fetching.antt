@@ -10,7 +10,7 @@ use Rattle.page.specs.declared.versions.Address.{Address}
 use Rattle.page_check.proofs.Slots.{slot_no_past}
 use Rattle.page_laws.specs.Chains.{chain}
 use Rattle.page_prune.specs.Chains.{start_of, member}
-use Rattle.page_prune.proofs.Steps.{chain_more}
+use Rattle.page_prune.proofs.Walks.{chain_more}
 use Rattle.snapshot.specs.Snapshots.{SnapshotData}
 use Rattle.heap_read.specs.Fates.{visible}
 use Rattle.heap_read.specs.Links.{is_root, link_from, first_in, fetch_in}

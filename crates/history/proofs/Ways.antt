@@ -10,8 +10,7 @@ use Rattle.page_check.proofs.Slots.{slot_no_past}
 use Rattle.page_laws.specs.Chains.{chain}
 use Rattle.page_compact.proofs.Packing.{sum_to, packing}
 use Rattle.page_prune.specs.Chains.{walk, member}
-use Rattle.page_prune.proofs.Walks.{chain_none, chain_full}
-use Rattle.page_prune.proofs.Steps.{chain_more}
+use Rattle.page_prune.proofs.Walks.{chain_none, chain_more, chain_full}
 use Rattle.heap_read.specs.Fates.{creator_fate, remover_fate}
 use Rattle.heap_read.specs.Links.{is_aborted, links_on, link_from, link_at}
 use Rattle.heap_read.specs.Reading.{address_in}

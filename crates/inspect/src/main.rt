@@ -5,17 +5,17 @@
 #![tactic(auto)]
 
 use anyhow::anyhow;
-use heap_report::{PageReport, count_in_state, pages_in};
+use heap_report::{MAX_PAGES, PageReport, SizeFault, count_in_state, pages_in};
 use page::{PAGE_SIZE, Page, State, standard_kinds};
 use page_check::first_broken;
-use std::{env, fs, io};
+use std::{env, fmt, fs, io};
 
 const USAGE: &str = "usage: inspect IMAGE
 Prints the pages of a heap image (1 to 64 pages of 8192 bytes): header, line pointers, versions,
 and whether each page is lawful or which rule it breaks first.";
 
 // What the last line counts.
-#[derive(Clone, Copy)]
+#[derive(Clone, Copy, Default)]
 struct Totals {
     lawful: u32,
     unlawful: u32,
@@ -25,34 +25,51 @@ struct Totals {
     unused: u32,
 }
 
-impl Totals {
-    const NONE: Totals = Totals {
-        lawful: 0,
-        unlawful: 0,
-        normal: 0,
-        redirect: 0,
-        dead: 0,
-        unused: 0,
-    };
+fn add(total: &mut u32, more: u16) {
+    *total = total.saturating_add(more.into());
+}
 
+impl Totals {
     fn add_page(&mut self, page: &Page, lawful: bool) {
         if lawful {
-            self.lawful = self.lawful.saturating_add(1);
+            add(&mut self.lawful, 1);
         } else {
-            self.unlawful = self.unlawful.saturating_add(1);
+            add(&mut self.unlawful, 1);
         }
-        self.normal = self
-            .normal
-            .saturating_add(count_in_state(page, State::Normal) as u32);
-        self.redirect = self
-            .redirect
-            .saturating_add(count_in_state(page, State::Redirect) as u32);
-        self.dead = self
-            .dead
-            .saturating_add(count_in_state(page, State::Dead) as u32);
-        self.unused = self
-            .unused
-            .saturating_add(count_in_state(page, State::Unused) as u32);
+        add(&mut self.normal, count_in_state(page, State::Normal));
+        add(&mut self.redirect, count_in_state(page, State::Redirect));
+        add(&mut self.dead, count_in_state(page, State::Dead));
+        add(&mut self.unused, count_in_state(page, State::Unused));
+    }
+}
+
+// Why a file is not read as a heap image.
+#[derive(Drop)]
+enum Fault {
+    Unreadable(io::Error),
+    NoFile,
+    Size(SizeFault),
+}
+
+impl fmt::Display for Fault {
+    fn fmt<W: fmt::Write>(&self, f: &mut fmt::Formatter<W>) -> fmt::Result {
+        match self {
+            Fault::Unreadable(error) => write!(f, "cannot be read: {error}"),
+            Fault::NoFile => write!(f, "is not a file"),
+            Fault::Size(size) => write!(f, "{size}"),
+        }
+    }
+}
+
+impl From<io::Error> for Fault {
+    fn from(error: io::Error) -> Fault {
+        Fault::Unreadable(error)
+    }
+}
+
+impl From<SizeFault> for Fault {
+    fn from(size: SizeFault) -> Fault {
+        Fault::Size(size)
     }
 }
 
@@ -61,12 +78,9 @@ fn pages_word(pages: u64) -> &'static str {
 }
 
 fn print_pages(rt: &HostRuntime, image: &[u8]) -> io::Result<Totals> {
-    let mut totals = Totals::NONE;
-    let mut rest = image;
-    for block in 0..64u32 {
-        let Some((page, after)) = rest.split_first_chunk::<PAGE_SIZE>() else {
-            break;
-        };
+    let mut totals = Totals::default();
+    let (pages, _) = image.as_chunks::<PAGE_SIZE>();
+    for (block, page) in (0..MAX_PAGES as u32).zip(pages) {
         let broken = first_broken(standard_kinds(), page, block);
         totals.add_page(page, broken.is_none());
         let report = PageReport {
@@ -75,7 +89,6 @@ fn print_pages(rt: &HostRuntime, image: &[u8]) -> io::Result<Totals> {
             broken,
         };
         print!(rt; "{report}")?;
-        rest = after;
     }
     Ok(totals)
 }
@@ -100,51 +113,28 @@ fn print_totals(rt: &HostRuntime, pages: u64, totals: Totals) -> io::Result<()> 
     )
 }
 
-fn fault(rt: &HostRuntime, path: &str, what: &str) -> anyhow::Error {
-    let _ = eprintln!(rt; "inspect: {path}: {what}");
-    anyhow!("no heap image")
-}
-
 // Reads the file, unless its size already says that it is no heap image.
-fn read_image(rt: &HostRuntime, path: &str) -> anyhow::Result<Vec<u8>> {
-    let about = match fs::metadata(rt, path) {
-        Ok(about) => about,
-        Err(error) => {
-            let what = format!(in rt.alloc(); "cannot be read: {error}")?;
-            return Err(fault(rt, path, what.as_str()));
-        }
-    };
+fn read_image(rt: &HostRuntime, path: &str) -> Result<(u64, Vec<u8>), Fault> {
+    let about = fs::metadata(rt, path)?;
     if !about.is_file() {
-        return Err(fault(rt, path, "is not a file"));
+        return Err(Fault::NoFile);
     }
-    if let Err(size) = pages_in(about.len()) {
-        let what = format!(in rt.alloc(); "{size}")?;
-        return Err(fault(rt, path, what.as_str()));
-    }
-    match fs::read(rt, path) {
-        Ok(image) => Ok(image),
-        Err(error) => {
-            let what = format!(in rt.alloc(); "cannot be read: {error}")?;
-            Err(fault(rt, path, what.as_str()))
-        }
-    }
+    pages_in(about.len())?;
+    let image = fs::read(rt, path)?;
+    let pages = pages_in(image.len() as u64)?;
+    Ok((pages, image))
 }
 
 fn inspect_file(rt: &HostRuntime, path: &str) -> anyhow::Result<()> {
-    let image = read_image(rt, path)?;
-    match pages_in(image.len() as u64) {
-        Ok(pages) => {
-            let word = pages_word(pages);
-            println!(rt; "{path}: {pages} {word}")?;
-            let totals = print_pages(rt, image.as_slice())?;
-            print_totals(rt, pages, totals)?;
-            Ok(())
-        }
-        Err(size) => {
-            let what = format!(in rt.alloc(); "{size}")?;
-            Err(fault(rt, path, what.as_str()))
-        }
-    }
+    let (pages, image) = read_image(rt, path).map_err(|fault| {
+        let _ = eprintln!(rt; "inspect: {path}: {fault}");
+        anyhow!("no heap image")
+    })?;
+    let word = pages_word(pages);
+    println!(rt; "{path}: {pages} {word}")?;
+    let totals = print_pages(rt, image.as_slice())?;
+    print_totals(rt, pages, totals)?;
+    Ok(())
 }
 
 fn main(rt: HostRuntime) -> anyhow::Result<()> {

@@ -1,2 +1,2 @@
-pub mod KindSearch
 pub mod PastEnd
+pub mod Numbers

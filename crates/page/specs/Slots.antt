@@ -1,6 +1,7 @@
 -- A page as a list of slots: what each line pointer stands for, its version decoded.
 use Rattle.std.specs.Prelude.{ℕ, zero, suc, Bool, cond, ◌&&◌, List, map, None, Option, nat_le, slice_index_or}
 use Rattle.std.specs.List.{range_with_len}
+use Rattle.std.specs.Option.{option_map}
 use Rattle.page.specs.Headers.{count_of}
 use Rattle.page.specs.LinePointers.{pointer_at}
 use Rattle.page.specs.Versions.{header_at, version_at, row_of, has_mark}
@@ -63,6 +64,13 @@ header_in p Dead = None
 
 abbrev pub header_no : List ℕ → ℕ → Option VersionHeader
 header_no p n = cond (nat_le 1 n && nat_le n (count_of p)) (header_in p (pointer_at p n)) None
+
+-- where the version of a pointer stands, and its header, where it has one inside the page
+abbrev pub place_in : List ℕ → Pointer → Option (ℕ × VersionHeader)
+place_in p Unused = None
+place_in p (Normal o n) = option_map (λ v. (o, v)) (version_at p o)
+place_in p (Redirect t) = None
+place_in p Dead = None
 
 -- all slots of a page, that of pointer 1 first
 abbrev pub view_of : List ℕ → List Slot

@@ -1,15 +1,16 @@
 // A page and its header.
-ghost use Rattle.std.specs.Prelude.{◌≡◌};
+ghost use Rattle.std.specs.Prelude.{◌≡◌, ◌+◌};
 ghost use Rattle.page.specs.Headers.{header_of, pointer_count, count_of};
 
 use crate::bytes::{read16, read32, read64};
+use std::ops::Range;
 
 pub const PAGE_SIZE: usize = 8192;
 
 pub type Page = [u8; PAGE_SIZE];
 
 // The 24 bytes that a page begins with. `lower` is where the line pointers end, `upper` where the versions begin.
-#[derive(Clone, Copy)]
+#[derive(Clone, Copy, PartialEq, Eq, Debug)]
 pub struct PageHeader {
     pub lsn: u64,
     pub checksum: u16,
@@ -50,4 +51,11 @@ pub fn pointer_count(page: &Page) -> u16
     ensures { result ≡ count_of page.now }
 {
     PageHeader::read(page).pointer_count()
+}
+
+// The numbers of the line pointers of a page, which count from 1.
+pub fn pointer_numbers(page: &Page) -> Range<u16>
+    ensures { result ≡ record { start = 1; end = count_of page.now + 1 } }
+{
+    1..pointer_count(page) + 1
 }

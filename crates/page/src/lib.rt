@@ -1,7 +1,7 @@
 // The layout of a heap page: the table of kinds, the page header, line pointers and versions.
 //
-// Every function here reads a page of any content: none has a `requires`, none reads outside the page, and each contract
-// says by equality with a definition of specs/ what is read. Nothing here judges a page: whether it is lawful is the
+// Every function here takes a page of any content: none that is public has a `requires`, none goes outside the page, and each
+// contract says by equality with a definition of specs/ what is read or written. Nothing here judges a page: whether it is lawful is the
 // matter of the crate `page_check`.
 
 #![tactic(auto)]
@@ -13,7 +13,9 @@ mod line_pointers;
 mod versions;
 
 pub use bytes::{write16, write32};
-pub use headers::{PAGE_SIZE, Page, PageHeader, pointer_count};
-pub use kinds::{Kind, body_len, row_fits, standard_kinds};
+pub use headers::{PAGE_SIZE, Page, PageHeader, pointer_count, pointer_numbers};
+pub use kinds::{Kind, RowKind, UnknownKind, body_len, row_fits, standard_kinds};
 pub use line_pointers::{LinePointer, Pointer, State, line_pointer_at, pointer_at};
-pub use versions::{Address, Mark, VersionHeader, row_at, version_at, version_of};
+pub use versions::{
+    Address, Mark, VersionHeader, row_at, version_at, version_in, version_of, version_place,
+};

@@ -1,15 +1,17 @@
 // Versions of rows: a header of 24 bytes, and then the row.
 ghost use Rattle.std.specs.Prelude.{◌≡◌};
 ghost use Rattle.std.specs.Option.{option_map};
-ghost use Rattle.page.specs.Slots.{header_no};
+ghost use Rattle.page.specs.LinePointers.{pointer_at};
+ghost use Rattle.page.specs.Slots.{header_in, header_no, place_in};
 ghost use Rattle.page.specs.Versions.{weight, word_of, has_mark, version_at, row_at};
 
 use crate::bytes::{read16, read32};
-use crate::headers::{PAGE_SIZE, Page, pointer_count};
+use crate::headers::{PAGE_SIZE, Page, pointer_numbers};
 use crate::line_pointers::{Pointer, pointer_at};
+use std::fmt;
 
 // Where a version stands: a block of the heap, and a line pointer of its page.
-#[derive(Clone, Copy)]
+#[derive(Clone, Copy, PartialEq, Eq, Debug)]
 pub struct Address {
     pub block: u32,
     pub pointer: u16,
@@ -17,7 +19,7 @@ pub struct Address {
 
 // The header of a version, as its bytes stand. The creator and the remover are transaction numbers (PostgreSQL's xmin
 // and xmax), and `ctid` is the version that replaced this one, or this one itself.
-#[derive(Clone, Copy)]
+#[derive(Clone, Copy, PartialEq, Eq, Debug)]
 pub struct VersionHeader {
     pub creator: u32,
     pub remover: u32,
@@ -30,7 +32,7 @@ pub struct VersionHeader {
 }
 
 // The named bits of the two infomask words. A creator with both of its bits is frozen.
-#[derive(Clone, Copy)]
+#[derive(Clone, Copy, PartialEq, Eq, Debug)]
 pub enum Mark {
     CreatorCommitted = 0x0100,
     CreatorInvalid = 0x0200,
@@ -41,11 +43,25 @@ pub enum Mark {
     HeapOnly = 0x8000,
 }
 
-impl Mark {
-    pub fn weight(self) -> u16
-        ensures { result ≡ weight self }
-    {
-        self as u16
+impl From<Mark> for u16 {
+    ghost from_gives = { λ mark bits. bits ≡ weight mark };
+
+    fn from(mark: Mark) -> u16 {
+        mark as u16
+    }
+}
+
+impl fmt::Display for Mark {
+    fn fmt<W: fmt::Write>(&self, f: &mut fmt::Formatter<W>) -> fmt::Result {
+        f.write_str(match self {
+            Mark::CreatorCommitted => "creator-committed",
+            Mark::CreatorInvalid => "creator-invalid",
+            Mark::RemoverCommitted => "remover-committed",
+            Mark::RemoverInvalid => "remover-invalid",
+            Mark::Updated => "updated",
+            Mark::HotUpdated => "hot-updated",
+            Mark::HeapOnly => "heap-only",
+        })
     }
 }
 
@@ -63,7 +79,7 @@ impl VersionHeader {
     pub fn has(&self, mark: Mark) -> bool
         ensures { result ≡ has_mark self.now mark }
     {
-        self.word(mark) / mark.weight() % 2 == 1
+        self.word(mark) / u16::from(mark) % 2 == 1
     }
 }
 
@@ -97,21 +113,39 @@ pub fn row_at(page: &Page, offset: u16, len: u16) -> Option<&[u8]>
 {
     let start = offset as usize + 24;
     let end = offset as usize + len as usize;
-    if end <= start || PAGE_SIZE < end {
+    if end <= start {
         return None;
     }
-    Some(&page[start..end])
+    page.get(start..end)
+}
+
+// The header of the version of a pointer, where it has one inside the page.
+pub fn version_in(page: &Page, pointer: Pointer) -> Option<VersionHeader>
+    ensures { result ≡ header_in page.now pointer }
+{
+    match pointer {
+        Pointer::Normal { offset, len: _ } => version_at(page, offset),
+        _ => None,
+    }
 }
 
 // The header of the version of a line pointer, where there is one.
 pub fn version_of(page: &Page, number: u16) -> Option<VersionHeader>
     ensures { result ≡ header_no page.now number }
 {
-    if number < 1 || pointer_count(page) < number {
+    if !pointer_numbers(page).contains(&number) {
         return None;
     }
+    version_in(page, pointer_at(page, number))
+}
+
+// Where the version of a line pointer stands, and its header, where it has one inside the page.
+pub fn version_place(page: &Page, number: u16) -> Option<(u16, VersionHeader)>
+    ensures { result ≡ place_in page.now (pointer_at page.now number) }
+{
     let Pointer::Normal { offset, len: _ } = pointer_at(page, number) else {
         return None;
     };
-    version_at(page, offset)
+    let version = version_at(page, offset)?;
+    Some((offset, version))
 }

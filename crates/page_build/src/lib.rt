@@ -5,23 +5,23 @@
 use page::{PAGE_SIZE, Page};
 
 pub fn put_byte(page: &mut Page, at: usize, byte: u8) {
-    if at < PAGE_SIZE {
-        page[at] = byte;
+    if let Some(place) = page.get_mut(at) {
+        *place = byte;
+    }
+}
+
+fn put<const N: usize>(page: &mut Page, at: usize, bytes: [u8; N]) {
+    for (k, byte) in bytes.iter().enumerate() {
+        put_byte(page, at.saturating_add(k), *byte);
     }
 }
 
 pub fn put16(page: &mut Page, at: usize, value: u16) {
-    let [low, high] = value.to_le_bytes();
-    put_byte(page, at, low);
-    put_byte(page, at.saturating_add(1), high);
+    put(page, at, value.to_le_bytes());
 }
 
 pub fn put32(page: &mut Page, at: usize, value: u32) {
-    let [a, b, c, d] = value.to_le_bytes();
-    put_byte(page, at, a);
-    put_byte(page, at.saturating_add(1), b);
-    put_byte(page, at.saturating_add(2), c);
-    put_byte(page, at.saturating_add(3), d);
+    put(page, at, value.to_le_bytes());
 }
 
 // An empty page with other ends of its line pointers and its free room.
@@ -68,7 +68,7 @@ pub const FRESH: Head = Head {
     infomask: 0x0800,
 };
 
-// Writes the header of a version and the kind of its row; the body stays zero.
+// Writes the header of a version and the kind of its row, which may be any byte; the body stays zero.
 pub fn put_version(page: &mut Page, offset: u16, head: Head, kind: u8) {
     let at = offset as usize;
     put32(page, at, head.creator);

@@ -31,9 +31,6 @@ all_to_miss f (suc n) h =
     (and_cases (f n) (all_to f n) h)
 
 -- one number more
-pub all_to_more : (f : ℕ → Bool) (i : ℕ) → all_to f i ≡ true → f i ≡ true → all_to f (i + 1) ≡ true
-all_to_more f i h e = rw add-one (and_from (f i) (all_to f i) e h)
-
 pub any_to_more : (f : ℕ → Bool) (i : ℕ) → any_to f i ≡ false → f i ≡ false → any_to f (i + 1) ≡ false
 any_to_more f i h e = rw add-one (or_from (f i) (any_to f i) e h)
 
@@ -66,10 +63,6 @@ each_before f i = let e : i + 1 - 1 ≡ i = omega arith in ap (each f) e
 pub or_some : {A : Type 0} (r s : Option A) → is_some r ≡ true → r ≡ option_or r s
 or_some None s h = absurd (both_ways false refl h)
 or_some (Some x) s h = refl
-
-pub none_is : {A : Type 0} (r : Option A) → is_some r ≡ false → r ≡ None
-none_is None h = refl
-none_is (Some x) h = absurd (both_ways true h refl)
 
 -- one number more at which nothing is found
 pub first_below_more : {A : Type 0} (f : ℕ → Option A) (i : ℕ) → first_below f i ≡ None → f i ≡ None → first_below f (i + 1) ≡ None

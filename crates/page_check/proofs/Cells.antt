@@ -1,14 +1,17 @@
 -- The cells of versions, and what the pass over them finds.
-use Rattle.std.proofs.Common.{◌≡◌, ℕ, ◌+◌, ◌-◌, ◌*◌, ◌/◌, ◌<◌, ◌≤◌, Bool, true, false, not, ◌&&◌, ◌||◌, ltb, leb, List, length, get_or, replicate, Some, None, sym, refl, ap, ◌∙◌, ⊎_elim, arith}
+use Rattle.std.proofs.Common.{◌≡◌, ℕ, zero, suc, ◌+◌, ◌-◌, ◌*◌, ◌/◌, ◌<◌, ◌≤◌, Bool, true, false, not, ◌&&◌, ◌||◌, ltb, leb, List, length, get_or, take, drop, replicate, Some, None, sym, refl, ap, ◌∙◌, ⊎_elim, add-one, arith}
+use Rattle.std.specs.List.{list_all}
+use Rattle.std.proofs.Math.Bool.{and_comm}
+use Rattle.std.proofs.lemmas.List.Folds.{list_all_more}
 use borrow.Rule.Slice.PartMut.{put_mid}
-use Rattle.std.proofs.lemmas.List.{places, get_or-replicate}
+use Rattle.std.proofs.lemmas.List.{places, get_or-replicate, get_or-drop, get_or_past, take_all}
 use Rattle.std.proofs.lemmas.Bool.{and_parts, and_from, leb-true, le-leb, lt-leb, lt-ltb, le-ltb, ltb-true, cases_lt, not-true, not-false, both_ways, or_from, cond-true, cond-false}
 use Rattle.std.proofs.lemmas.Bool.Decides.{nat_tests}
 use Rattle.page.specs.Headers.{count_of}
 use Rattle.page.specs.LinePointers.{pointer_at}
 use Rattle.page.specs.declared.line_pointers.Pointer.{Pointer}
 use Rattle.page.specs.declared.line_pointers.Pointer.TheVariants.{Unused, Normal, Redirect, Dead}
-use Rattle.page_check.specs.All.{first_to}
+use Rattle.page_check.specs.All.{all_to, first_to}
 use Rattle.page_check.specs.Rules.{apart, page_holds}
 use Rattle.page_check.specs.Lawful.{page_break}
 use Rattle.page_check.specs.Marking.{LiesIn, AllLie, covers, cells_free, cells_taken}
@@ -79,6 +82,19 @@ taken_at cs Dead k len i b = refl
 taken_at cs (Normal o n) k len i b =
     let i1 = i.ends in let i2 = i.holds_kind in fill_at cs (o / 8) ((o + n + 7) / 8) k len (omega arith) (omega arith) b
 
+-- the cells of a version one by one; those past the end count as free
+free_cells : (cs : List Bool) (a m : ℕ) → list_all not (take m (drop a cs)) ≡ all_to (λ k. not (get_or cs (a + k) false)) m
+free_cells cs a zero = refl
+free_cells cs a (suc m) =
+    let before = free_cells cs a m in
+    let here = get_or-drop a cs m false in
+    ⊎_elim
+    (λ (l : m < length (drop a cs)). ap (λ (k : ℕ). list_all not (take k (drop a cs))) (sym (add-one m)) ∙ list_all_more not (drop a cs) m false l ∙ rw here (rw before (and_comm (all_to (λ k. not (get_or cs (a + k) false)) m) (not (get_or cs (a + m) false)))))
+    (λ (l : length (drop a cs) ≤ m).
+    let past : get_or cs (a + m) false ≡ false = sym here ∙ get_or_past (drop a cs) m false l in
+    ap (list_all not) (take_all (suc m) (drop a cs) (omega arith) ∙ sym (take_all m (drop a cs) l)) ∙ before ∙ rw past refl)
+    (cases_lt m (length (drop a cs)))
+
 -- the cells of a version were free
 free_at : (cs : List Bool) (x : Pointer) → cells_free cs x ≡ true → (k : ℕ) → k < 1024 → covers x k ≡ true → get_or cs k false ≡ false
 free_at cs Unused h k b e = absurd (both_ways false refl e)
@@ -87,7 +103,7 @@ free_at cs Dead h k b e = absurd (both_ways false refl e)
 free_at cs (Normal o n) h k b e =
     let es = cover_tells o n k e in let e1 = es.0 in let e2 = es.1 in
     let q : o / 8 + (k - o / 8) ≡ k = omega arith in
-    not-true (get_or cs k false) (rw q at (all_to_at (λ k. not (get_or cs (o / 8 + k) false)) ((o + n + 7) / 8 - o / 8) (k - o / 8) h (omega arith)))
+    not-true (get_or cs k false) (rw q at (all_to_at (λ k. not (get_or cs (o / 8 + k) false)) ((o + n + 7) / 8 - o / 8) (k - o / 8) (sym (free_cells cs (o / 8) ((o + n + 7) / 8 - o / 8)) ∙ h) (omega arith)))
 
 -- or one of them was not
 busy_at : (cs : List Bool) (x : Pointer) → LiesIn x → cells_free cs x ≡ false → (k : ℕ) × (k < 1024) × (covers x k ≡ true) × (get_or cs k false ≡ true)
@@ -96,7 +112,7 @@ busy_at cs (Redirect t) i h = absurd (both_ways true h refl)
 busy_at cs Dead i h = absurd (both_ways true h refl)
 busy_at cs (Normal o n) i h =
     let i1 = i.ends in
-    let r = all_to_miss (λ k. not (get_or cs (o / 8 + k) false)) ((o + n + 7) / 8 - o / 8) h in
+    let r = all_to_miss (λ k. not (get_or cs (o / 8 + k) false)) ((o + n + 7) / 8 - o / 8) (sym (free_cells cs (o / 8) ((o + n + 7) / 8 - o / 8)) ∙ h) in
     let l = r.1 in (
       o / 8 + r.0,
       omega arith,

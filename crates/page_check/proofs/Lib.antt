@@ -1,3 +1,4 @@
+pub mod Ranges
 pub mod All
 pub mod OwnRules
 pub mod Marks

@@ -1,12 +1,13 @@
 -- Names of heap-only versions, and what the pass over them finds.
-use Rattle.std.proofs.Common.{◌≡◌, ℕ, zero, suc, ◌+◌, ◌<◌, ◌≤◌, Bool, true, false, not, ◌&&◌, ◌||◌, eqb, ◌≢◌, List, length, get_or, set, Some, None, sym, refl, ap, ◌∙◌, ⊎_elim, arith}
+use Rattle.std.proofs.Common.{◌≡◌, ℕ, zero, suc, ◌+◌, ◌-◌, ◌<◌, ◌≤◌, Bool, true, false, not, ◌&&◌, ◌||◌, eqb, ◌≢◌, List, length, get_or, set, IfSome, unwrap_or, Some, None, Option, sym, refl, ap, ◌∙◌, ⊎_elim, arith}
 use Rattle.std.proofs.lemmas.List.{get_or-set_same, get_or-set_other}
 use Rattle.std.proofs.lemmas.Bool.{and_parts, and_from, or_cases, eqb-true, cases_Bool, cases_eq, cases_lt, not-true, not-false, not_from_false, not_from_true, both_ways, or_from, or_parts, or_left, or_right, eq-eqb, ne_eqb}
 use Rattle.page.specs.Headers.{count_of}
-use Rattle.page.specs.Slots.{Slot, slot_no}
+use Rattle.page.specs.LinePointers.{pointer_at}
+use Rattle.page.specs.Slots.{Slot, slot_of, slot_no}
 use Rattle.page.specs.Slots.Slot.{unused, dead, redirect, holds}
 use Rattle.page_check.specs.All.{any_to, first_to}
-use Rattle.page_check.specs.Rules.{is_heap_only, is_made_by, name_of, other_name}
+use Rattle.page_check.specs.Rules.{is_heap_only, is_made_by, some_name, name_of, other_name}
 use Rattle.page_check.specs.Lawful.{page_break}
 use Rattle.page_check.specs.Marking.{name_free, name_taken}
 use Rattle.page_check.specs.declared.rules.PageRule.TheVariants.{NamedOnce}
@@ -14,7 +15,7 @@ use Rattle.page_check.specs.declared.rules.Broken.TheVariants.{Among}
 use Rattle.page_check.proofs.All.{each_before, first_to_more, first_to_hit}
 use Rattle.page_check.proofs.Marks.{Shows, marks_more, marks_free, marks_busy}
 use Rattle.page_check.proofs.Cells.{break_none, break_some}
-use Rattle.page_check.proofs.Slots.{slot_no_past}
+use Rattle.page_check.proofs.Slots.{slot_no_in, slot_no_past}
 
 -- A name is that of a pointer of the page.
 
@@ -135,3 +136,23 @@ module _ (b : ℕ) (p : List ℕ) (few : count_of p ≤ 291) (i : ℕ) (ns : Lis
       ∙ marks_busy (says b p) 292 differs i ns shows (named b p i) (omega arith) r.0 r.1
       (λ j m x y. other_false (named b p i) (named b p j) (named b p i) x y)))
       refl
+
+-- What the code finds at a number.
+
+some_is : (t : ℕ) → unwrap_or (some_name t) 0 ≡ t
+some_is zero = refl
+some_is (suc t) = refl
+
+module _ (b : ℕ) (p : List ℕ) (n : ℕ) (r : Option ℕ) where
+  pub name_at : 1 ≤ n → n ≤ count_of p → r ≡ some_name (name_of b (slot_no p) (slot_of p (pointer_at p n))) → unwrap_or r 0 ≡ named b p (n - 1)
+  name_at one last e =
+      let k : n ≡ n - 1 + 1 = omega arith in
+      ap (λ (o : Option ℕ). unwrap_or o 0) e ∙ some_is (name_of b (slot_no p) (slot_of p (pointer_at p n)))
+      ∙ ap (name_of b (slot_no p)) (sym (slot_no_in p n one last)) ∙ ap (λ (m : ℕ). name_of b (slot_no p) (slot_no p m)) k
+
+  pub name_fits : count_of p ≤ 291 → 1 ≤ n → n ≤ count_of p → r ≡ some_name (name_of b (slot_no p) (slot_of p (pointer_at p n))) → IfSome r (λ t. (1 ≤ t) × (t ≤ 291))
+  name_fits few one last e = rw e (fits (name_of b (slot_no p) (slot_of p (pointer_at p n))) (name_small b p (slot_of p (pointer_at p n))))
+    where
+      fits : (t : ℕ) → t ≤ count_of p → IfSome (some_name t) (λ t. (1 ≤ t) × (t ≤ 291))
+      fits zero l = tt
+      fits (suc t) l = (omega arith, omega arith)

@@ -1,11 +1,14 @@
 -- How overlap and naming are found in one pass: each version marks its cells of eight bytes, each name its number.
 use Rattle.std.specs.Prelude.{◌≡◌, ℕ, ◌+◌, ◌-◌, ◌/◌, ◌%◌, ◌<◌, ◌≤◌, Bool, true, false, cond, not, ◌&&◌, ◌||◌, List, [], length, replicate, ◌==◌, nat_le, nat_lt, slice_index_or, slice_set}
+use Rattle.std.specs.List.{list_all, between}
+use Rattle.std.specs.Coded.{Unit-prop}
+use mathlib.Core.HLevel.{Π_prop}
+use Rattle.std.proofs.Props.{props}
 use borrow.Rule.Slice.PartMut.{put_mid}
 use Rattle.page.specs.LinePointers.{pointer_at}
 use Rattle.page.specs.Headers.{count_of}
 use Rattle.page.specs.declared.line_pointers.Pointer.{Pointer}
 use Rattle.page.specs.declared.line_pointers.Pointer.TheVariants.{Unused, Normal, Redirect, Dead}
-use Rattle.page_check.specs.All.{all_to}
 
 -- where a version lies, as the rules of its pointer have it
 pub record Lies (o n : ℕ) : Type 0 where
@@ -22,6 +25,15 @@ LiesIn Dead = Unit {0}
 -- all versions of a page lie so
 abbrev pub AllLie : List ℕ → Type 0
 AllLie p = (k : ℕ) → k < count_of p → LiesIn (pointer_at p (k + 1))
+
+LiesIn-prop : (x : Pointer) → IsProp (LiesIn x)
+LiesIn-prop Unused = Unit-prop
+LiesIn-prop (Normal o n) = Prim.hlevel props
+LiesIn-prop (Redirect t) = Unit-prop
+LiesIn-prop Dead = Unit-prop
+
+pub AllLie-prop : (p : List ℕ) → IsProp (AllLie p)
+AllLie-prop p = Π_prop λ k. Π_prop λ _. LiesIn-prop (pointer_at p (k + 1))
 
 -- and those of all pages of a heap
 abbrev pub PagesLie : List (List ℕ) → Type 0
@@ -40,14 +52,10 @@ covers (Normal o n) x = nat_le (first_cell o) x && nat_lt x (end_cell o n)
 covers (Redirect t) x = false
 covers Dead x = false
 
--- the cells from a to e are free
-abbrev pub free_to : List Bool → ℕ → ℕ → Bool
-free_to cells a e = all_to (λ k. not (slice_index_or cells (a + k) false)) (e - a)
-
 -- the cells of a version are all free, and are then taken
 abbrev pub cells_free : List Bool → Pointer → Bool
 cells_free cells Unused = true
-cells_free cells (Normal o n) = free_to cells (first_cell o) (end_cell o n)
+cells_free cells (Normal o n) = list_all not (between (first_cell o) (end_cell o n) cells)
 cells_free cells (Redirect t) = true
 cells_free cells Dead = true
 

@@ -1,5 +1,5 @@
 -- What each rule of a lawful page asks.
-use Rattle.std.specs.Prelude.{ℕ, ◌+◌, ◌-◌, ◌*◌, ◌/◌, ◌%◌, Bool, true, false, cond, not, ◌&&◌, ◌||◌, List, [], ◌∷◌, is_some, Some, None, Option, ◌==◌, nat_le, slice_index}
+use Rattle.std.specs.Prelude.{ℕ, zero, suc, ◌+◌, ◌-◌, ◌*◌, ◌/◌, ◌%◌, Bool, true, false, cond, not, ◌&&◌, ◌||◌, List, [], ◌∷◌, is_some, Some, None, Option, ◌==◌, nat_le, slice_index}
 use Rattle.page.specs.Kinds.{body_len, fits}
 use Rattle.page.specs.Headers.{header_of, pointer_count}
 use Rattle.page.specs.LinePointers.{pointer_at}
@@ -132,6 +132,11 @@ name_of b slot dead = 0
 name_of b slot (redirect t) = cond (is_heap_only (slot t)) t 0
 name_of b slot (holds v) =
     cond (v.hot_updated && v.ctid.block == b && is_made_by v.remover (slot v.ctid.pointer)) v.ctid.pointer 0
+
+-- the same with no number for none
+abbrev pub some_name : ℕ → Option ℕ
+some_name zero = None
+some_name (suc t) = Some (suc t)
 
 -- a redirect leads to a heap-only version
 abbrev pub leads_well : (ℕ → Slot) → Slot → Bool

@@ -1,31 +1,28 @@
 // The check of a whole page.
-ghost use Rattle.std.specs.Prelude.{◌≡◌, ◌≤◌, not, is_some, IfSome};
+ghost use Rattle.std.specs.Prelude.{◌≡◌, not, is_some, IfSome};
 ghost use Rattle.std.specs.Option.{option_or};
-ghost use Rattle.page.specs.Headers.{count_of};
 ghost use Rattle.page_check.specs.Lawful.{is_lawful, among_broken, first_broken, Fails};
-ghost use Rattle.page_check.specs.Marking.{AllLie};
 ghost use Rattle.page_check.specs.declared.rules.PageRule.TheVariants.{NoOverlap, RedirectTarget, NamedOnce};
 
-use crate::naming::{first_named_twice, first_stray_redirect};
-use crate::overlap::first_overlap;
 use crate::own::{first_own_break, header_break};
 use crate::rules::Broken;
+use crate::sound::SoundPage;
 use page::{Kind, Page, PageHeader};
 
-// The rules among the pointers, once those of each pointer hold.
-fn among_broken(page: &Page, block: u32, count: u16) -> Option<Broken>
-    requires few { count ≤ 291 }
-    requires count { count ≡ count_of page.now }
-    requires lie { AllLie page.now }
-    ensures { result ≡ option_or (among_broken block page.now NoOverlap) (option_or (among_broken block page.now RedirectTarget) (among_broken block page.now NamedOnce)) }
-{
-    if let Some(broken) = first_overlap(page, count) {
-        return Some(broken);
+impl SoundPage<'_> {
+    // The rules among the pointers.
+    fn among_broken(&self) -> Option<Broken>
+        ensures { result ≡ option_or (among_broken self.now.block self.now.page.now NoOverlap) (option_or (among_broken self.now.block self.now.page.now RedirectTarget) (among_broken self.now.block self.now.page.now NamedOnce)) }
+    {
+        // Not `or_else`, whose clause tells nothing of what these closures give.
+        if let Some(broken) = self.first_overlap() {
+            return Some(broken);
+        }
+        if let Some(broken) = self.first_stray_redirect() {
+            return Some(broken);
+        }
+        self.first_named_twice()
     }
-    if let Some(broken) = first_stray_redirect(page, count) {
-        return Some(broken);
-    }
-    first_named_twice(page, block, count)
 }
 
 // Rule by rule: each pass rests on those before it, which say that pointers and versions lie inside the page.
@@ -36,11 +33,10 @@ fn find_broken(kinds: &[Kind], page: &Page, block: u32) -> Option<Broken>
     if let Some(rule) = header_break(&header) {
         return Some(Broken::InHeader(rule));
     }
-    let count = header.pointer_count();
-    if let Some(broken) = first_own_break(kinds, page, count) {
+    if let Some(broken) = first_own_break(kinds, page) {
         return Some(broken);
     }
-    among_broken(page, block, count)
+    SoundPage { page, block }.among_broken()
 }
 
 // The first rule that the page of a block breaks, and where: none exactly where the page is lawful.

@@ -11,6 +11,8 @@ mod naming;
 mod overlap;
 mod own;
 mod rules;
+mod sound;
 
 pub use check::{first_broken, is_lawful};
+pub use naming::{is_heap_only, is_made_by};
 pub use rules::{Broken, HeaderRule, PageRule, PointerRule, VersionRule};

@@ -1,122 +1,111 @@
 // Whether redirects lead to heap-only versions, and whether a heap-only version is named twice, each in one pass.
-ghost use Rattle.std.specs.Prelude.{◌≡◌, ◌≤◌};
+ghost use Rattle.std.specs.Prelude.{◌≡◌, ◌≤◌, not, IfSome, unwrap_or};
+ghost use Rattle.std.specs.List.{find, range_with_len};
 ghost use Rattle.page.specs.Headers.{count_of};
 ghost use Rattle.page.specs.LinePointers.{pointer_at};
 ghost use Rattle.page.specs.Slots.{slot_of, slot_no};
-ghost use Rattle.page_check.specs.Rules.{is_heap_only, is_made_by, name_of, leads_well};
+ghost use Rattle.page_check.specs.Rules.{is_heap_only, is_made_by, some_name, name_of, leads_well};
 ghost use Rattle.page_check.specs.Lawful.{among_broken};
 ghost use Rattle.page_check.specs.Marking.{AllLie, name_free, name_taken};
 ghost use Rattle.page_check.specs.declared.rules.PageRule.TheVariants.{RedirectTarget, NamedOnce};
 
 use crate::rules::{Broken, PageRule};
-use page::{Mark, Page, Pointer, pointer_at, version_at, version_of};
+use crate::sound::SoundPage;
+use page::{
+    Mark, Page, Pointer, pointer_at, pointer_count, pointer_numbers, version_at, version_of,
+};
 
-// Whether a line pointer has a heap-only version.
-fn is_heap_only(page: &Page, number: u16) -> bool
+// Whether a line pointer has a heap-only version. This and the next take a page, and not the type of `sound.rt`: they
+// are the interface for crates that have pages as plain bytes.
+#[tactic(auto, using(crate::proofs::Slots::heap_only_no))]
+pub fn is_heap_only(page: &Page, number: u16) -> bool
     requires { AllLie page.now }
     ensures { result ≡ is_heap_only (slot_no page.now number) }
 {
-    match version_of(page, number) {
-        Some(version) => version.has(Mark::HeapOnly),
-        None => false,
-    }
+    version_of(page, number).is_some_and(|version| version.has(Mark::HeapOnly))
 }
 
 // Whether a line pointer has a heap-only version of a creator.
-fn is_made_by(page: &Page, number: u16, creator: u32) -> bool
+#[tactic(auto, using(crate::proofs::Slots::made_by_no))]
+pub fn is_made_by(page: &Page, number: u16, creator: u32) -> bool
     requires { AllLie page.now }
     ensures { result ≡ is_made_by creator (slot_no page.now number) }
 {
-    match version_of(page, number) {
-        Some(version) => version.has(Mark::HeapOnly) && version.creator == creator,
-        None => false,
-    }
+    version_of(page, number).is_some_and(|version| version.has(Mark::HeapOnly)
+        && version.creator == creator)
 }
 
-// The number of the heap-only version that a line pointer names, or 0.
-fn name_of(page: &Page, block: u32, count: u16, number: u16) -> u16
-    requires count { count ≡ count_of page.now }
-    requires lie { AllLie page.now }
-    requires first { 1 ≤ number }
-    requires last { number ≤ count }
-    ensures { result ≡ name_of block (slot_no page.now) (slot_of page.now (pointer_at page.now number)) }
+// Takes a name, where there is one, and says whether it was free.
+fn take_name(named: &mut [bool; 292], name: Option<u16>) -> bool
+    requires { IfSome name (λ t. (1 ≤ t) × (t ≤ 291)) }
+    ensures answer { result ≡ name_free named.old (unwrap_or name 0) }
+    ensures named { named.new ≡ name_taken named.old (unwrap_or name 0) }
 {
-    match pointer_at(page, number) {
-        Pointer::Unused => 0,
-        Pointer::Dead => 0,
-        Pointer::Redirect(target) => if is_heap_only(page, target) {
-            target
-        } else {
-            0
-        },
-        Pointer::Normal { offset, len: _ } => {
-            let Some(version) = version_at(page, offset) else {
-                return 0;
-            };
-            let named = version.ctid.pointer;
-            if version.has(Mark::HotUpdated)
-                && version.ctid.block == block
-                && is_made_by(page, named, version.remover)
-            {
-                named
-            } else {
-                0
-            }
-        }
-    }
-}
-
-fn leads_well(page: &Page, number: u16) -> bool
-    requires { AllLie page.now }
-    ensures { result ≡ leads_well (slot_no page.now) (slot_of page.now (pointer_at page.now number)) }
-{
-    match pointer_at(page, number) {
-        Pointer::Redirect(target) => is_heap_only(page, target),
-        _ => true,
-    }
-}
-
-// The first redirect that does not lead to a heap-only version. (The block plays no part.)
-pub(crate) fn first_stray_redirect(page: &Page, count: u16) -> Option<Broken>
-    requires few { count ≤ 291 }
-    requires count { count ≡ count_of page.now }
-    requires lie { AllLie page.now }
-    ensures { result ≡ among_broken 0 page.now RedirectTarget }
-{
-    for i in 0..count {
-        if !leads_well(page, i + 1) {
-            return Some(Broken::Among(i + 1, PageRule::RedirectTarget));
-        }
-    }
-    None
-}
-
-// Takes a name, unless it is 0, and says whether it was free.
-fn take_name(named: &mut [bool; 292], name: u16) -> bool
-    requires { name ≤ 291 }
-    ensures answer { result ≡ name_free named.old name }
-    ensures named { named.new ≡ name_taken named.old name }
-{
-    if name == 0 {
+    let Some(name) = name else {
         return true;
-    }
+    };
     let free = !named[name as usize];
     named[name as usize] = true;
     free
 }
 
-// The first line pointer that names a heap-only version that an earlier one names already.
-pub(crate) fn first_named_twice(page: &Page, block: u32, count: u16) -> Option<Broken>
-    requires few { count ≤ 291 }
-    requires count { count ≡ count_of page.now }
-    requires lie { AllLie page.now }
-    ensures { result ≡ among_broken block page.now NamedOnce }
-{
-    let mut named = [false; 292];
-    for i in 0..count {
-        if !take_name(&mut named, name_of(page, block, count, i + 1)) {
-            return Some(Broken::Among(i + 1, PageRule::NamedOnce));
+impl SoundPage<'_> {
+    // The number of the heap-only version that a line pointer names.
+    fn name_of(&self, number: u16) -> Option<u16>
+        requires first { 1 ≤ number }
+        requires last { number ≤ count_of self.now.page.now }
+        ensures { result ≡ some_name (name_of self.now.block (slot_no self.now.page.now) (slot_of self.now.page.now (pointer_at self.now.page.now number))) }
+    {
+        match pointer_at(self.page, number) {
+            Pointer::Unused | Pointer::Dead => None,
+            Pointer::Redirect(target) => is_heap_only(self.page, target).then_some(target),
+            Pointer::Normal { offset, len: _ } => {
+                let version = version_at(self.page, offset)?;
+                let named = version.ctid.pointer;
+                let names = version.has(Mark::HotUpdated)
+                    && version.ctid.block == self.block
+                    && is_made_by(self.page, named, version.remover);
+                names.then_some(named)
+            }
         }
     }
-    None
+
+    // Whether a redirect leads to a heap-only version. A match, since it reads the number that a redirect holds.
+    fn leads_well(&self, number: u16) -> bool
+        ensures { result ≡ leads_well (slot_no self.now.page.now) (slot_of self.now.page.now (pointer_at self.now.page.now number)) }
+    {
+        match pointer_at(self.page, number) {
+            Pointer::Redirect(target) => is_heap_only(self.page, target),
+            _ => true,
+        }
+    }
+
+    fn stray_redirect(&self) -> Option<u16>
+        ensures { result ≡ find (λ k. not (leads_well (slot_no self.now.page.now) (slot_of self.now.page.now (pointer_at self.now.page.now k)))) (range_with_len 1 (count_of self.now.page.now)) }
+    {
+        pointer_numbers(self.page).find(|number| !self.leads_well(*number))
+    }
+
+    // The first redirect that does not lead to a heap-only version.
+    #[tactic(auto, using(crate::proofs::Slots::stray_broken))]
+    pub(crate) fn first_stray_redirect(&self) -> Option<Broken>
+        ensures { result ≡ among_broken self.now.block self.now.page.now RedirectTarget }
+    {
+        self.stray_redirect()
+            .map(|number| Broken::Among(number, PageRule::RedirectTarget))
+    }
+
+    // The first line pointer that names a heap-only version that an earlier one names already.
+    pub(crate) fn first_named_twice(&self) -> Option<Broken>
+        ensures { result ≡ among_broken self.now.block self.now.page.now NamedOnce }
+    {
+        let mut named = [false; 292];
+        // A range, and not `pointer_numbers`: over that the loop runs by an iterator, and its invariant has no number.
+        for number in 1..pointer_count(self.page) + 1 {
+            if !take_name(&mut named, self.name_of(number)) {
+                return Some(Broken::Among(number, PageRule::NamedOnce));
+            }
+        }
+        None
+    }
 }

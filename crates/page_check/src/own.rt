@@ -1,8 +1,7 @@
 // The rules of the header, and of each line pointer and its version by themselves.
-ghost use Rattle.std.specs.Prelude.{◌≡◌, ◌+◌, ◌≤◌, true, length};
+ghost use Rattle.std.specs.Prelude.{◌≡◌, ◌≤◌};
 ghost use Rattle.page_check.specs.All.{first_of};
 ghost use Rattle.page_check.specs.Rules.{header_holds, header_rules, only_named_bits, pointer_holds, pointer_rules, version_holds, version_rules, row_break};
-ghost use Rattle.page.specs.Headers.{count_of};
 ghost use Rattle.page.specs.LinePointers.{line_pointer_at};
 ghost use Rattle.page.specs.declared.line_pointers.State.TheVariants.{Normal};
 ghost use Rattle.page_check.specs.Lawful.{own_break, own_broken};
@@ -10,9 +9,12 @@ ghost use Rattle.page_check.specs.Lawful.{own_break, own_broken};
 use crate::rules::{Broken, HeaderRule, PointerRule, VersionRule};
 use page::{
     Kind, LinePointer, Mark, Page, PageHeader, State, VersionHeader, body_len, line_pointer_at,
-    version_at,
+    pointer_count, version_at,
 };
 
+// The table of kinds and the page are two parameters: as a struct they would be longer in each clause.
+
+// One test for each rule, in the order of the rules: a table of tests would say the same twice.
 pub(crate) fn header_break(header: &PageHeader) -> Option<HeaderRule>
     ensures { result ≡ first_of (header_holds header.now) header_rules }
 {
@@ -134,26 +136,21 @@ fn own_break(kinds: &[Kind], page: &Page, number: u16) -> Option<Broken>
     if let Some(rule) = pointer_break(kinds, page, at) {
         return Some(Broken::AtPointer(number, rule));
     }
-    let State::Normal = at.state else {
+    if at.state != State::Normal {
         return None;
-    };
-    let version = version_at(page, at.offset)?;
-    match version_break(&version) {
-        Some(rule) => Some(Broken::InVersion(number, rule)),
-        None => None,
     }
+    let version = version_at(page, at.offset)?;
+    version_break(&version).map(|rule| Broken::InVersion(number, rule))
 }
 
 // The first line pointer that breaks a rule by itself.
-pub(crate) fn first_own_break(kinds: &[Kind], page: &Page, count: u16) -> Option<Broken>
-    requires few { count ≤ 291 }
-    requires count { count ≡ count_of page.now }
+pub(crate) fn first_own_break(kinds: &[Kind], page: &Page) -> Option<Broken>
     ensures { result ≡ own_broken kinds.now page.now }
 {
-    for i in 0..count {
-        let broken = own_break(kinds, page, i + 1);
-        if broken.is_some() {
-            return broken;
+    // Not `find_map`: no lemma says what it finds in a range.
+    for number in 1..pointer_count(page) + 1 {
+        if let Some(broken) = own_break(kinds, page, number) {
+            return Some(broken);
         }
     }
     None

@@ -1,30 +1,23 @@
 // The versions of a page laid anew.
-ghost use Rattle.std.specs.Prelude.{◌≡◌, ◌+◌, ◌-◌, ◌≤◌, replicate};
-ghost use borrow.Rule.Slice.PartMut.{put_mid};
+ghost use Rattle.std.specs.Prelude.{◌≡◌, ◌+◌, ◌-◌, ◌≤◌};
+ghost use Rattle.page.specs.Headers.{header_of, count_of};
 ghost use Rattle.page.specs.LinePointers.{pointer_at};
 ghost use Rattle.page_check.specs.Marking.{LiesIn};
-ghost use Rattle.page_room.specs.Room.{up8};
 ghost use Rattle.page_compact.specs.Compaction.{LawfulPage, Packs, size_of, top_to, cleared, laid, laid_to, compacted};
 
-use page::{PAGE_SIZE, Page, PageHeader, Pointer, pointer_at, write16, write32};
+use page::{Page, PageHeader, Pointer, pointer_at, pointer_count, write16, write32};
+use page_room::padded;
 
-// A length rounded up to a multiple of 8.
-fn rounded_up(len: u16) -> u16
-    requires { len ≤ 8192 }
-    ensures { result ≡ up8 len }
+// Sets everything behind the line pointers to zero.
+fn clear_versions(page: &mut Page)
+    requires { (header_of page.old).lower ≤ 8192 }
+    ensures { page.new ≡ cleared page.old }
 {
-    (len + 7) / 8 * 8
+    let lower = PageHeader::read(page).lower as usize;
+    page[lower..].fill(0);
 }
 
-// Sets everything from `lower` to the end of the page to zero.
-fn clear_from(page: &mut Page, lower: u16)
-    requires { lower ≤ 8192 }
-    ensures { page.new ≡ put_mid lower (8192 - lower) page.old (replicate (8192 - lower) 0) }
-{
-    page[lower as usize..PAGE_SIZE].fill(0);
-}
-
-// Lays the version of a line pointer of `old` right below `top`, and says where it begins.
+// Lays the version of a line pointer of `old` right below `top`, and says where it begins. What it asks, it asks of that pointer.
 fn lay(page: &mut Page, old: &Page, number: u16, top: u16) -> u16
     requires number { number ≤ 291 }
     requires lies { LiesIn (pointer_at old.now number) }
@@ -36,29 +29,30 @@ fn lay(page: &mut Page, old: &Page, number: u16, top: u16) -> u16
     let Pointer::Normal { offset, len } = pointer_at(old, number) else {
         return top;
     };
-    let begin = top - rounded_up(len);
-    let to = begin as usize;
     let from = offset as usize;
+    let to = top as usize - padded(len as usize);
+    let begin = to as u16;
     page[to..to + len as usize].copy_from_slice(&old[from..from + len as usize]);
     write32(
         page,
         20 + 4 * number,
-        Pointer::Normal { offset: begin, len }.encode(),
+        Pointer::Normal { offset: begin, len }.into(),
     );
     begin
 }
 
 // Lays the versions of all line pointers of `old`, and says where the lowest begins.
-fn lay_all(page: &mut Page, old: &Page, count: u16) -> u16
-    requires few { count ≤ 291 }
-    requires packs { Packs old.now count }
+fn lay_all(page: &mut Page, old: &Page) -> u16
+    requires few { count_of old.now ≤ 291 }
+    requires packs { Packs old.now (count_of old.now) }
     requires cleared { page.old ≡ cleared old.now }
-    ensures top { result ≡ top_to old.now count }
-    ensures page { page.new ≡ laid_to old.now count }
+    ensures top { result ≡ top_to old.now (count_of old.now) }
+    ensures page { page.new ≡ laid_to old.now (count_of old.now) }
 {
     let mut top = 8192;
-    for i in 0..count {
-        top = lay(page, old, i + 1, top);
+    // A range, and not `pointer_numbers`: over that the loop runs by an iterator, and its invariant has no number.
+    for number in 1..pointer_count(old) + 1 {
+        top = lay(page, old, number, top);
     }
     top
 }
@@ -70,8 +64,7 @@ pub fn compact_page(page: &mut Page)
     ensures { page.new ≡ compacted page.old }
 {
     let old = *page;
-    let header = PageHeader::read(page);
-    clear_from(page, header.lower);
-    let upper = lay_all(page, &old, header.pointer_count());
+    clear_versions(page);
+    let upper = lay_all(page, &old);
     write16(page, 14, upper);
 }

@@ -14,8 +14,6 @@ ghost use Rattle.page_compact.specs.Laws.{CompactionKeeps};
 pub use compaction::compact_page;
 
 // Compaction changes no slot and keeps every lawful page lawful; the free room and the padding are zero afterwards.
-pub fn compaction_keeps() -> u8
+pub fn compaction_keeps()
     ensures { CompactionKeeps }
-{
-    0
-}
+{}

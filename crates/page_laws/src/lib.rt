@@ -6,8 +6,6 @@
 ghost use Rattle.page_laws.specs.Keeps.{LawfulMeans};
 
 // A page is lawful exactly where it keeps the rules at every line pointer and every pair of them.
-pub fn lawful_means() -> u8
+pub fn lawful_means()
     ensures { LawfulMeans }
-{
-    0
-}
+{}

@@ -1,14 +1,16 @@
 -- The loops over the outcomes, in plain variables; and outcomes that agree on the pointers of a page.
-use Rattle.std.proofs.Common.{◌≡◌, ℕ, zero, suc, ◌+◌, ◌<◌, ◌≤◌, Bool, true, false, cond, ◌||◌, List, length, sym, refl, ap, ◌∙◌, subst, ⊎_elim, add-one, arith}
-use Rattle.std.proofs.lemmas.Bool.{cases_eq, or_left, or_right, or_from}
+use Rattle.std.proofs.Common.{◌≡◌, ℕ, zero, suc, ◌+◌, ◌<◌, ◌≤◌, Bool, cond, ◌||◌, List, length, sym, refl, ap, ◌∙◌, subst, arith}
 use Rattle.page.specs.Headers.{count_of}
 use Rattle.page.specs.LinePointers.{pointer_at}
-use Rattle.page.specs.Slots.{slot_of, slot_at, view_of}
+use Rattle.page.specs.Slots.{Slot, slot_of, slot_at, view_of}
 use Rattle.page_check.proofs.Slots.{slot_no_in}
 use Rattle.page_laws.proofs.Views.{view_at, view_length}
 use Rattle.page_compact.specs.Compaction.{LawfulPage, compacted}
 use Rattle.page_check.specs.All.{count_to}
+use Rattle.page_check.proofs.Ranges.{any_list, count_list}
+use Rattle.std.specs.List.{range_with_len, count_by}
 use Rattle.page_prune.specs.Pruned.{Prunable, outcome, slot_after, is_change, changed_by, loses_version, becomes_dead, removed_by, made_dead_by, repointed, repoint_to, pruned_by}
+use Rattle.page_prune.specs.Marking.{pruned_along}
 use Rattle.page_prune.specs.declared.outcomes.Outcome.{Outcome}
 use Rattle.page_prune.proofs.Whole.{repointed_lawful}
 
@@ -16,25 +18,22 @@ use Rattle.page_prune.proofs.Whole.{repointed_lawful}
 pub slot_at_lem : (p : List ℕ) (n : ℕ) → 1 ≤ n → n ≤ count_of p → slot_of p (pointer_at p n) ≡ slot_at (view_of p) n
 slot_at_lem p n a b = sym (slot_no_in p n a b) ∙ sym (view_at p n)
 
-pub count_yes : (f : ℕ → Bool) (i n m : ℕ) → n ≡ count_to f i → true ≡ f (i + 1) → m ≡ n + 1 → m ≡ count_to f (i + 1)
-count_yes f i n m h e k = rw add-one (rw (sym e) (omega arith))
+-- a count over the numbers of a page, by the slots
+count_as : (f g : ℕ → Bool) (n : ℕ) → ((k : ℕ) → k < n → f (k + 1) ≡ g (k + 1)) → count_to f n ≡ count_to g n
+count_as f g zero h = refl
+count_as f g (suc n) h =
+    ap (λ (b : Bool). cond b 1 0 + count_to f n) (h n (omega arith)) ∙ ap (λ (c : ℕ). cond (g (n + 1)) 1 0 + c) (count_as f g n (λ k l. h k (omega arith)))
 
-pub count_no : (f : ℕ → Bool) (i n m : ℕ) → n ≡ count_to f i → false ≡ f (i + 1) → m ≡ n → m ≡ count_to f (i + 1)
-count_no f i n m h e k = rw add-one (rw (sym e) (omega arith))
+pub count_slots : (f : ℕ → Slot → Bool) (p : List ℕ)
+    → count_by (λ n. f n (slot_of p (pointer_at p n))) (range_with_len 1 (count_of p)) ≡ count_to (λ n. f n (slot_at (view_of p) n)) (length (view_of p))
+count_slots f p =
+    count_list (λ n. f n (slot_of p (pointer_at p n))) (count_of p)
+    ∙ count_as (λ n. f n (slot_of p (pointer_at p n))) (λ n. f n (slot_at (view_of p) n)) (count_of p)
+    (λ k l. ap (f (k + 1)) (slot_at_lem p (k + 1) (omega arith) (omega arith)))
+    ∙ ap (count_to (λ n. f n (slot_at (view_of p) n))) (sym (view_length p))
 
-pub changed_no : (os : ℕ → Outcome) (i : ℕ) → changed_by os i ≡ false → false ≡ is_change (os (i + 1)) → changed_by os (i + 1) ≡ false
-changed_no os i h e = ap (changed_by os) (add-one i) ∙ or_from (is_change (os (i + 1))) (changed_by os i) (sym e) h
-
-pub changed_yes : (os : ℕ → Outcome) (i n : ℕ) → i < n → true ≡ is_change (os (i + 1)) → true ≡ changed_by os n
-changed_yes os i zero l e = absurd (omega arith)
-changed_yes os i (suc n) l e =
-    ⊎_elim
-    (λ (q : i ≡ n). sym (or_left (is_change (os (n + 1))) (changed_by os n) (ap (λ (k : ℕ). is_change (os (k + 1))) (sym q) ∙ sym e)))
-    (λ (q : i ≡ n → ⊥). sym (or_right (is_change (os (n + 1))) (changed_by os n) (sym (changed_yes os i n (omega arith) e))))
-    (cases_eq i n)
-
-pub repoint_more : (p q q' : List ℕ) (os : ℕ → Outcome) (i : ℕ) → q ≡ repoint_to p os i → q' ≡ repointed q (i + 1) (os (i + 1)) → q' ≡ repoint_to p os (i + 1)
-repoint_more p q q' os i e d = d ∙ ap (λ (x : List ℕ). repointed x (i + 1) (os (i + 1))) e ∙ sym (ap (repoint_to p os) (add-one i))
+pub pruned_along_is : (p : List ℕ) (os : ℕ → Outcome) → pruned_along os p ≡ pruned_by os p
+pruned_along_is p os = ap (λ (b : Bool). cond b (compacted (repoint_to p os (count_of p))) p) (any_list (λ n. is_change (os n)) (count_of p))
 
 -- Outcomes that agree from 1 to n.
 
@@ -52,10 +51,7 @@ repoint_same p os os' (suc n) h =
     ap (λ (o : Outcome). repointed (repoint_to p os n) (n + 1) o) (h n (omega arith)) ∙ ap (λ (q : List ℕ). repointed q (n + 1) (os' (n + 1))) (repoint_same p os os' n (λ k l. h k (omega arith)))
 
 count_same : (f : ℕ → Outcome → Bool) (os os' : ℕ → Outcome) (n : ℕ) → Agree os os' n → count_to (λ k. f k (os k)) n ≡ count_to (λ k. f k (os' k)) n
-count_same f os os' zero h = refl
-count_same f os os' (suc n) h =
-    ap (λ (o : Outcome). cond (f (n + 1) o) 1 0 + count_to (λ k. f k (os k)) n) (h n (omega arith))
-    ∙ ap (λ (c : ℕ). cond (f (n + 1) (os' (n + 1))) 1 0 + c) (count_same f os os' n (λ k l. h k (omega arith)))
+count_same f os os' n h = count_as (λ k. f k (os k)) (λ k. f k (os' k)) n (λ k l. ap (f (k + 1)) (h k l))
 
 -- outcomes as good as those of the definition
 module _ (p : List ℕ) (os os' : ℕ → Outcome) (h : Agree os os' (count_of p)) where
@@ -73,8 +69,8 @@ module _ (p : List ℕ) (os os' : ℕ → Outcome) (h : Agree os os' (count_of p
   pub dead_same : made_dead_by os (view_of p) ≡ made_dead_by os' (view_of p)
   dead_same = count_same (λ n o. becomes_dead (slot_at (view_of p) n) (slot_after o (slot_at (view_of p) n))) os os' (length (view_of p)) agree
 
-pub lawful_repointed : (p : List ℕ) (nx : ℕ → ℕ) (gone : ℕ → Bool) (os : ℕ → Outcome) (n : ℕ) → length p ≡ 8192 → Prunable p nx → n ≡ count_of p → Agree os (outcome nx gone (view_of p)) (count_of p)
-    → LawfulPage (repoint_to p os n)
-lawful_repointed p nx gone os n len h e a =
-    subst (λ (q : List ℕ). LawfulPage q) (sym (ap (repoint_to p os) e ∙ repoint_same p os (outcome nx gone (view_of p)) (count_of p) a))
+pub lawful_repointed : (p : List ℕ) (nx : ℕ → ℕ) (gone : ℕ → Bool) (os : ℕ → Outcome) → length p ≡ 8192 → Prunable p nx → Agree os (outcome nx gone (view_of p)) (count_of p)
+    → LawfulPage (repoint_to p os (count_of p))
+lawful_repointed p nx gone os len h a =
+    subst (λ (q : List ℕ). LawfulPage q) (sym (repoint_same p os (outcome nx gone (view_of p)) (count_of p) a))
     (record { kinds = h.kinds; block = h.block; lawful = repointed_lawful h.kinds h.block nx gone p len h.lawful h.links })

@@ -1,7 +1,7 @@
 pub mod Names
 pub mod Repoint
 pub mod Walks
-pub mod Steps
+pub mod MarkSteps
 pub mod Left
 pub mod Whole
 pub mod Ready

@@ -1,6 +1,8 @@
 -- Chains and walks, whatever they run along.
-use Rattle.std.proofs.Common.{◌≡◌, ℕ, zero, suc, ◌+◌, ◌-◌, ◌<◌, ◌≤◌, Bool, true, false, ◌||◌, eqb, List, [], ◌∷◌, length, sym, refl, ap, ◌∙◌, subst, ⊎_elim, arith}
+use Rattle.std.proofs.Common.{◌≡◌, ℕ, zero, suc, ◌+◌, ◌-◌, ◌<◌, ◌≤◌, Bool, true, false, ◌||◌, eqb, List, [], ◌∷◌, ◌++◌, length, take, All, length-append, sym, refl, ap, ◌∙◌, subst, ⊎_elim, arith}
 use Rattle.std.proofs.lemmas.Bool.{or_cases, or_parts, or_left, or_right, eqb-true, eq-eqb, both_ways, cond-true, cond-false, cases_Bool}
+use Rattle.std.proofs.Math.Seq.{take-append_seam}
+use Rattle.std.proofs.lemmas.List.Elements.{All-nil, All-cons}
 use Rattle.page_laws.specs.Chains.{chain}
 use Rattle.page_prune.specs.Chains.{walk, member, any_dead, left, lost}
 
@@ -18,6 +20,10 @@ walk_zero nx z (suc i) = ap nx (walk_zero nx z i) ∙ z
 pub chain_none : (nx : ℕ → ℕ) (f : ℕ) → chain nx f 0 ≡ []
 chain_none nx zero = refl
 chain_none nx (suc f) = refl
+
+pub chain_more : (nx : ℕ → ℕ) (f a : ℕ) → (a ≡ 0 → ⊥) → chain nx (suc f) a ≡ a ∷ chain nx f (nx a)
+chain_more nx f zero n = absurd (n refl)
+chain_more nx f (suc a) n = refl
 
 -- a chain whose walk comes to 0 is no longer with more steps allowed
 pub chain_full : (nx : ℕ → ℕ) → nx 0 ≡ 0 → (j d a : ℕ) → walk nx j a ≡ 0 → chain nx (j + d) a ≡ chain nx j a
@@ -58,9 +64,10 @@ pub none_lost : (gone : ℕ → Bool) (ms : List ℕ) → any_dead gone ms ≡ f
 none_lost gone [] h = refl
 none_lost gone (m ∷ ms) h = cond-false (gone m || any_dead gone ms) (m ∷ lost gone ms) [] h
 
-pub some_lost : (gone : ℕ → Bool) (ms : List ℕ) → any_dead gone ms ≡ true → 1 ≤ length (lost gone ms)
-some_lost gone [] h = absurd (both_ways false refl h)
-some_lost gone (m ∷ ms) h = let e = ap length (cond-true (gone m || any_dead gone ms) (m ∷ lost gone ms) [] h) in omega arith
+-- all is left where none is dead
+pub left_all : (gone : ℕ → Bool) (ms : List ℕ) → any_dead gone ms ≡ false → left gone ms ≡ ms
+left_all gone [] h = refl
+left_all gone (m ∷ ms) h = cond-false (gone m || any_dead gone ms) (left gone ms) (m ∷ ms) h
 
 -- none of what is left is dead
 pub left_alive : (gone : ℕ → Bool) (ms : List ℕ) → any_dead gone (left gone ms) ≡ false
@@ -71,15 +78,37 @@ left_alive gone (m ∷ ms) =
     (λ (e : (gone m || any_dead gone ms) ≡ false). ap (any_dead gone) (cond-false (gone m || any_dead gone ms) (left gone ms) (m ∷ ms) e) ∙ e)
     (cases_Bool (gone m || any_dead gone ms))
 
--- a chain is cut into what is lost of it, from its start, and what is left, from the place behind
+-- a list is what it loses and what is left of it
+pub lost-append-left : (gone : ℕ → Bool) (ms : List ℕ) → lost gone ms ++ left gone ms ≡ ms
+lost-append-left gone [] = refl
+lost-append-left gone (m ∷ ms) =
+    ⊎_elim
+    (λ (h : (gone m || any_dead gone ms) ≡ true).
+    ap (λ (xs : List ℕ). xs ++ left gone (m ∷ ms)) (cond-true (gone m || any_dead gone ms) (m ∷ lost gone ms) [] h)
+    ∙ ap (λ (xs : List ℕ). m ∷ (lost gone ms ++ xs)) (cond-true (gone m || any_dead gone ms) (left gone ms) (m ∷ ms) h)
+    ∙ ap (λ (xs : List ℕ). m ∷ xs) (lost-append-left gone ms))
+    (λ (h : (gone m || any_dead gone ms) ≡ false).
+    ap (λ (xs : List ℕ). xs ++ left gone (m ∷ ms)) (cond-false (gone m || any_dead gone ms) (m ∷ lost gone ms) [] h)
+    ∙ cond-false (gone m || any_dead gone ms) (left gone ms) (m ∷ ms) h)
+    (cases_Bool (gone m || any_dead gone ms))
+
+pub lost_and_left : (gone : ℕ → Bool) (ms : List ℕ) → length (lost gone ms) + length (left gone ms) ≡ length ms
+lost_and_left gone ms = sym (length-append (lost gone ms) (left gone ms)) ∙ ap length (lost-append-left gone ms)
+
+pub left_short : (gone : ℕ → Bool) (ms : List ℕ) → length (left gone ms) ≤ length ms
+left_short gone ms = omega (arith, lost_and_left gone ms)
+
+pub lost-take : (gone : ℕ → Bool) (ms : List ℕ) → take (length (lost gone ms)) ms ≡ lost gone ms
+lost-take gone ms = ap (take (length (lost gone ms))) (sym (lost-append-left gone ms)) ∙ take-append_seam (lost gone ms) (left gone ms)
+
+-- what is left of a chain goes from the place behind what is lost
 pub record Cut (nx : ℕ → ℕ) (gone : ℕ → Bool) (f a k : ℕ) : Type 0 where
   pub short : k ≤ f
-  pub front : lost gone (chain nx f a) ≡ chain nx k a
   pub back : left gone (chain nx f a) ≡ chain nx (f - k) (walk nx k a)
 
 pub cut : (nx : ℕ → ℕ) (gone : ℕ → Bool) (f a : ℕ) → Cut nx gone f a (length (lost gone (chain nx f a)))
-cut nx gone zero a = record { short = omega arith; front = refl; back = refl }
-cut nx gone (suc f) zero = record { short = omega arith; front = refl; back = sym (chain_none nx (suc f - 0)) }
+cut nx gone zero a = record { short = omega arith; back = refl }
+cut nx gone (suc f) zero = record { short = omega arith; back = sym (chain_none nx (suc f - 0)) }
 cut nx gone (suc f) (suc a) =
     ⊎_elim
     (λ (e : (gone (suc a) || any_dead gone (chain nx f (nx (suc a)))) ≡ true).
@@ -89,7 +118,6 @@ cut nx gone (suc f) (suc a) =
     = cond-true (gone (suc a) || any_dead gone (chain nx f (nx (suc a)))) (suc a ∷ lost gone (chain nx f (nx (suc a)))) [] e in
     let c : Cut nx gone (suc f) (suc a) (suc k) = record {
       short = let s = r.short in omega arith;
-      front = ls ∙ ap (λ (ms : List ℕ). suc a ∷ ms) r.front;
       back = cond-true (gone (suc a) || any_dead gone (chain nx f (nx (suc a)))) (left gone (chain nx f (nx (suc a)))) (suc a ∷ chain nx f (nx (suc a))) e
           ∙ r.back ∙ ap (λ (n : ℕ). chain nx n (walk nx k (nx (suc a)))) (omega arith) ∙ ap (chain nx (suc f - suc k)) (walk_shift nx k (suc a));
     } in
@@ -99,12 +127,23 @@ cut nx gone (suc f) (suc a) =
     let e0 : suc f ≡ suc f - 0 = omega arith in
     let c : Cut nx gone (suc f) (suc a) 0 = record {
       short = omega arith;
-      front = ls;
       back = cond-false (gone (suc a) || any_dead gone (chain nx f (nx (suc a)))) (left gone (chain nx f (nx (suc a)))) (suc a ∷ chain nx f (nx (suc a))) e
           ∙ ap (λ (n : ℕ). chain nx n (suc a)) e0;
     } in
     subst (λ (n : ℕ). Cut nx gone (suc f) (suc a) n) (sym (ap length ls)) c)
     (cases_Bool (gone (suc a) || any_dead gone (chain nx f (nx (suc a)))))
+
+-- What an iterator along a chain comes to.
+
+pub chain_short : (nx : ℕ → ℕ) (f a : ℕ) → length (chain nx f a) ≤ f
+chain_short nx zero a = omega arith
+chain_short nx (suc f) zero = omega arith
+chain_short nx (suc f) (suc a) = omega (arith, chain_short nx f (nx (suc a)))
+
+pub chain_within : (nx : ℕ → ℕ) (f a b : ℕ) → ((m : ℕ) → nx m ≤ b) → a ≤ b → All (λ k. k ≤ b) (chain nx f a)
+chain_within nx zero a b w l = All-nil (λ k. k ≤ b)
+chain_within nx (suc f) zero b w l = All-nil (λ k. k ≤ b)
+chain_within nx (suc f) (suc a) b w l = All-cons (λ k. k ≤ b) (suc a) (chain nx f (nx (suc a))) l (chain_within nx f (nx (suc a)) b w (w (suc a)))
 
 -- the first that is left of the chain from a
 pub record First (nx : ℕ → ℕ) (gone : ℕ → Bool) (ms : List ℕ) (a t : ℕ) : Type 0 where

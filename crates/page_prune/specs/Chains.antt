@@ -1,6 +1,7 @@
 -- The chains of a page, and what a prune takes from them. What a version links on to is a parameter here, and so is which
 -- versions are dead: nx m is the number of the version that m links on to, or 0.
-use Rattle.std.specs.Prelude.{◌≡◌, ℕ, zero, suc, ◌+◌, Bool, false, cond, ◌||◌, ◌⊎◌, List, [], ◌∷◌, length, ◌==◌}
+use Rattle.std.specs.Prelude.{◌≡◌, ℕ, zero, suc, ◌+◌, Bool, cond, ◌||◌, ◌⊎◌, List, [], ◌∷◌, length, ◌==◌}
+use Rattle.std.specs.List.{list_any}
 use Rattle.page.specs.Slots.{Slot, slot_at}
 use Rattle.page.specs.Slots.Slot.{unused, dead, redirect, holds}
 use Rattle.page_check.specs.All.{any_to}
@@ -29,12 +30,10 @@ abbrev pub chain_of : (ℕ → ℕ) → List Slot → ℕ → List ℕ
 chain_of nx ss m = chain nx (length ss + 1) (start_of m (slot_at ss m))
 
 abbrev pub member : ℕ → List ℕ → Bool
-member x [] = false
-member x (y ∷ ys) = x == y || member x ys
+member x = list_any (λ y. x == y)
 
 abbrev pub any_dead : (ℕ → Bool) → List ℕ → Bool
-any_dead is_dead [] = false
-any_dead is_dead (m ∷ ms) = is_dead m || any_dead is_dead ms
+any_dead = list_any
 
 -- what a chain loses: its last dead member and all before it
 abbrev pub lost : (ℕ → Bool) → List ℕ → List ℕ

@@ -1,4 +1,5 @@
 pub mod Chains
+pub mod Members
 pub mod Pruned
 pub mod Marking
 pub mod Laws

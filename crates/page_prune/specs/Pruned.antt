@@ -1,5 +1,5 @@
 -- What a prune makes of a page: of its slots, of its bytes, and the two numbers that it answers.
-use Rattle.std.specs.Prelude.{◌≡◌, ℕ, zero, suc, ◌+◌, ◌*◌, Bool, true, false, cond, not, ◌&&◌, ◌||◌, List, [], ◌∷◌, map, length, slice_index, slice_index_or}
+use Rattle.std.specs.Prelude.{◌≡◌, ℕ, zero, suc, ◌+◌, ◌*◌, Bool, true, false, cond, not, ◌&&◌, ◌||◌, List, [], ◌∷◌, map, length, slice_index_or}
 use Rattle.std.specs.List.{range_with_len}
 use Rattle.page.specs.Bytes.{put32}
 use Rattle.page.specs.Headers.{count_of}
@@ -123,12 +123,6 @@ pub record Prunable (p : List ℕ) (nx : ℕ → ℕ) : Type 0 where
   pub lawful : is_lawful kinds block p ≡ true
   pub links : Links block (view_of p) nx
 
--- what the arrays of the code say of a number
-abbrev pub next_in : List ℕ → ℕ → ℕ
-next_in next m = slice_index next m
-
-abbrev pub dead_in : List Bool → ℕ → Bool
-dead_in dead? m = slice_index_or dead? m false
-
+-- what the table of outcomes says of a number
 abbrev pub outcome_in : List Outcome → ℕ → Outcome
 outcome_in os m = slice_index_or os m Stays

@@ -1,21 +1,23 @@
 // What a prune makes of each line pointer.
-ghost use Rattle.std.specs.Prelude.{◌≡◌, ◌+◌, ◌≤◌, if◌then◌else◌, nat_eq};
+ghost use Rattle.std.specs.Prelude.{◌≡◌, ℕ, ◌≤◌};
+ghost use Rattle.std.specs.List.{All};
+ghost use Rattle.std.specs.Option.{unwrap_or};
 ghost use Rattle.page.specs.Headers.{count_of};
 ghost use Rattle.page.specs.LinePointers.{pointer_at};
 ghost use Rattle.page.specs.Slots.{slot_of, view_of};
-ghost use Rattle.page_laws.specs.Chains.{chain};
-ghost use Rattle.page_prune.specs.Chains.{walk};
-ghost use Rattle.page_prune.specs.Pruned.{Prunable, next_in, dead_in, root_outcome, heap_only_outcome};
-ghost use Rattle.page_prune.specs.Marking.{Within, Marked, outcome_by, Decides};
-ghost use Rattle.page_prune.specs.declared.outcomes.Outcome.TheVariants.{Stays, MadeDead, Redirected};
+ghost use Rattle.page_check.specs.Marking.{AllLie, AllLie-prop};
+ghost use Rattle.page_prune.specs.Chains.{start_of, chain_of};
+ghost use Rattle.page_prune.specs.Members.{next_in, dead_in, ahead, dead_along};
+ghost use Rattle.page_prune.specs.Pruned.{outcome, root_outcome, heap_only_outcome, is_change, outcome_in};
+ghost use Rattle.page_prune.specs.Marking.{Marked, Decides};
 
-use crate::chains::{
-    Marks, NUMBERS, chain_start, is_heap_only, lost_count, mark_chains, member_after,
-};
-use page::Page;
+use crate::chains::{Chain, Members, NUMBERS, is_dead};
+use crate::marks::{ChainMark, Marks, mark_lost, mark_members};
+use page::{Page, Pointer, pointer_at, pointer_count};
+use page_check::is_heap_only;
 
 // What becomes of a line pointer: it becomes unused, dead, or a redirect to the number given, if it does not stay.
-#[derive(Clone, Copy)]
+#[derive(Clone, Copy, PartialEq, Eq)]
 pub(crate) enum Outcome {
     Stays,
     Freed,
@@ -23,96 +25,131 @@ pub(crate) enum Outcome {
     Redirected(u16),
 }
 
-// A root whose chain has lost members leads to the first that is left, if `first` is one.
-fn led_to(lost: u16, first: u16) -> Outcome
-    ensures { result ≡ (if nat_eq lost 0 then Stays else (if nat_eq first 0 then MadeDead else Redirected first)) }
-{
-    if lost == 0 {
-        Outcome::Stays
-    } else if first == 0 {
-        Outcome::MadeDead
-    } else {
-        Outcome::Redirected(first)
+impl Outcome {
+    pub(crate) fn is_change(self) -> bool
+        ensures { result ≡ is_change self }
+    {
+        self != Outcome::Stays
     }
 }
 
-// What becomes of a root with the chain from `start` on.
-fn root_outcome(next: &[u16; NUMBERS], dead: &[bool; NUMBERS], start: u16, limit: u16) -> Outcome
-    requires start { start ≤ 291 }
-    requires limit { limit ≤ 292 }
-    requires within { Within next.now }
-    requires none { next_in next.now 0 ≡ 0 }
-    requires ends { walk (next_in next.now) limit start ≡ 0 }
-    ensures { result ≡ root_outcome (dead_in dead.now) (chain (next_in next.now) limit start) }
+// A root whose chain has a dead member leads to the first that is left, or is dead where none is.
+fn root_outcome(chain: Chain) -> Outcome
+    ensures { result ≡ root_outcome (dead_along chain.entry) (ahead chain.entry) }
 {
-    let lost = lost_count(next, dead, start, limit);
-    led_to(lost, member_after(next, start, lost))
+    if !chain.has_dead() {
+        return Outcome::Stays;
+    }
+    match chain.left().next() {
+        Some(first) => Outcome::Redirected(first),
+        None => Outcome::MadeDead,
+    }
 }
 
 // A heap-only version goes where its chain loses it, or where it is dead and in no chain.
-fn heap_only_outcome(lost: bool, chained: bool, dead: bool) -> Outcome
-    ensures { result ≡ heap_only_outcome lost chained dead }
+fn heap_only_outcome(mark: ChainMark, dead: bool) -> Outcome
+    ensures { result ≡ heap_only_outcome mark.lost mark.chained dead }
 {
-    if lost || dead && !chained {
+    if mark.lost || dead && !mark.chained {
         Outcome::Freed
     } else {
         Outcome::Stays
     }
 }
 
-fn outcome_of(
-    page: &Page,
-    number: u16,
-    limit: u16,
-    next: &[u16; NUMBERS],
-    dead: &[bool; NUMBERS],
-    marks: &Marks,
-) -> Outcome
-    requires first { 1 ≤ number }
-    requires last { number + 1 ≤ limit }
-    requires limit { limit ≡ count_of page.now + 1 }
-    requires prunable { Prunable page.now (next_in next.now) }
-    ensures { result ≡ outcome_by marks.now (next_in next.now) (dead_in dead.now) limit number (slot_of page.now (pointer_at page.now number)) }
-{
-    let n = number as usize;
-    if is_heap_only(page, number) {
-        heap_only_outcome(marks.lost[n], marks.chained[n], dead[n])
-    } else {
-        root_outcome(next, dead, chain_start(page, number), limit)
-    }
-}
+// What becomes of each line pointer, by its number.
+pub(crate) type Outcomes = [Outcome; NUMBERS];
 
-// What becomes of each line pointer of a page whose chains are marked.
-fn decide(
-    page: &Page,
-    count: u16,
-    next: &[u16; NUMBERS],
-    dead: &[bool; NUMBERS],
-    marks: &Marks,
-) -> [Outcome; NUMBERS]
-    requires count { count ≡ count_of page.now }
-    requires prunable { Prunable page.now (next_in next.now) }
-    requires marked { Marked (next_in next.now) (dead_in dead.now) (view_of page.now) marks.now }
-    ensures { Decides (next_in next.now) (dead_in dead.now) page.now result }
+// The outcome of a number; a pointer that the table does not have stays.
+pub(crate) fn outcome_at(outcomes: &Outcomes, number: u16) -> Outcome
+    ensures { result ≡ outcome_in outcomes.now number }
 {
-    let mut outcomes = [Outcome::Stays; NUMBERS];
-    for i in 0..count {
-        outcomes[i as usize + 1] = outcome_of(page, i + 1, count + 1, next, dead, marks);
-    }
     outcomes
+        .get(number as usize)
+        .copied()
+        .unwrap_or(Outcome::Stays)
 }
 
-// What becomes of each line pointer of a page, by its number.
-pub(crate) fn outcomes_of(
-    page: &Page,
-    count: u16,
-    next: &[u16; NUMBERS],
-    dead: &[bool; NUMBERS],
-) -> [Outcome; NUMBERS]
-    requires count { count ≡ count_of page.now }
-    requires prunable { Prunable page.now (next_in next.now) }
-    ensures { Decides (next_in next.now) (dead_in dead.now) page.now result }
-{
-    let marks = mark_chains(page, count, next, dead);
-    decide(page, count, next, dead, &marks)
+// A page with the links along its names, of which none leads out of the table. It has no block, as the page that the check has
+// made sure of does, so it says for itself how the versions lie. A number is an argument with its bounds: a type for a number of a
+// page would have to hold the page as well.
+#[derive(Clone, Copy)]
+pub(crate) struct LinkedPage<'a> {
+    pub(crate) page: &'a Page,
+    pub(crate) members: &'a Members,
+    ghost few: { count_of page.now ≤ 291 },
+    ghost lie: { AllLie page.now } by { AllLie-prop page.now },
+    ghost links: { (n : ℕ) → next_in members.now n ≤ 291 },
+    ghost starts: { (n : ℕ) → 1 ≤ n → n ≤ count_of page.now → start_of n (slot_of page.now (pointer_at page.now n)) ≤ 291 },
+}
+
+impl<'a> LinkedPage<'a> {
+    // Where the chain of a line pointer begins, if it has one.
+    #[tactic(auto, using(page_check::proofs::Slots::slot_no_in))]
+    fn chain_start(&self, number: u16) -> Option<u16>
+        requires first { 1 ≤ number }
+        requires last { number ≤ count_of self.now.page.now }
+        ensures { unwrap_or result 0 ≡ start_of number (slot_of self.now.page.now (pointer_at self.now.page.now number)) }
+    {
+        match pointer_at(self.page, number) {
+            Pointer::Redirect(target) => Some(target),
+            Pointer::Normal { .. } if !is_heap_only(self.page, number) => Some(number),
+            _ => None,
+        }
+    }
+
+    // The chain of a line pointer, which has no more members than the page has pointers.
+    fn chain_of(&self, number: u16) -> Chain<'a>
+        requires first { 1 ≤ number }
+        requires last { number ≤ count_of self.now.page.now }
+        ensures members { result.members.now ≡ self.now.members.now }
+        ensures ahead { ahead result ≡ chain_of (next_in self.now.members.now) (view_of self.now.page.now) number }
+        ensures inside { All (λ k. k ≤ 291) (ahead result) }
+    {
+        Chain {
+            members: self.members,
+            at: self.chain_start(number),
+            limit: pointer_count(self.page) + 1,
+        }
+    }
+
+    // The marks of the chains of all roots.
+    fn marks(&self) -> Marks
+        ensures { Marked (next_in self.now.members.now) (dead_in self.now.members.now) (view_of self.now.page.now) result }
+    {
+        let mut marks = [ChainMark::default(); NUMBERS];
+        // A range, and not `pointer_numbers`: over that the loop runs by an iterator, and its invariant has no number.
+        for number in 1..pointer_count(self.page) + 1 {
+            let chain = self.chain_of(number);
+            mark_members(&mut marks, chain);
+            mark_lost(&mut marks, chain);
+        }
+        marks
+    }
+
+    fn outcome_of(&self, marks: &Marks, number: u16) -> Outcome
+        requires first { 1 ≤ number }
+        requires last { number ≤ count_of self.now.page.now }
+        requires marked { Marked (next_in self.now.members.now) (dead_in self.now.members.now) (view_of self.now.page.now) marks.now }
+        ensures { result ≡ outcome (next_in self.now.members.now) (dead_in self.now.members.now) (view_of self.now.page.now) number }
+    {
+        if is_heap_only(self.page, number) {
+            heap_only_outcome(marks[number as usize], is_dead(self.members, number))
+        } else {
+            root_outcome(self.chain_of(number))
+        }
+    }
+
+    // What becomes of each line pointer.
+    pub(crate) fn outcomes(&self) -> Outcomes
+        ensures { Decides (next_in self.now.members.now) (dead_in self.now.members.now) self.now.page.now result }
+    {
+        let marks = self.marks();
+        let mut outcomes = [Outcome::Stays; NUMBERS];
+        // A range, and not `pointer_numbers`: over that the loop runs by an iterator, and its invariant has no number.
+        for number in 1..pointer_count(self.page) + 1 {
+            outcomes[number as usize] = self.outcome_of(&marks, number);
+        }
+        outcomes
+    }
 }

@@ -1,7 +1,12 @@
 -- The least number of which a test holds.
-use Rattle.std.proofs.Common.{◌≡◌, ℕ, zero, suc, ◌<◌, ◌≤◌, Bool, true, false, cond, ltb, sym, refl, ap, ◌∙◌, ⊎_elim, arith}
-use Rattle.std.proofs.lemmas.Bool.{cond-true, cond-false, lt-ltb, le-ltb, cases_lt, cases_Bool}
-use Rattle.page_room.specs.Room.{least_to}
+use Rattle.std.proofs.Common.{◌≡◌, ℕ, zero, suc, ◌+◌, ◌<◌, ◌≤◌, Bool, true, false, cond, not, ltb, List, [], ◌∷◌, length, get_or, is_some, unwrap_or, Some, None, Option, sym, refl, ap, ◌∙◌, ⊎_elim, arith}
+use Rattle.std.proofs.lemmas.Bool.{cond-true, cond-false, lt-ltb, le-ltb, ltb-true, ltb-false, cases_lt, cases_Bool}
+use Rattle.std.specs.Option.{option_or}
+use Rattle.std.specs.List.{find, range_with_len, position, position_or_len}
+use Rattle.std.proofs.lemmas.List.Folds.{find-append}
+use Rattle.std.proofs.lemmas.List.Sums.{fails_before_first, passes_at_first, prefix_len-le-length}
+use Rattle.page.proofs.Numbers.{numbers_end}
+use Rattle.page_room.specs.Room.{least_to, takes, first_block_taking}
 
 -- one number more, after those before
 least_kept : (f : ℕ → Bool) (n : ℕ) → least_to f n < n → least_to f (suc n) ≡ least_to f n
@@ -58,3 +63,44 @@ least_same f g zero h = refl
 least_same f g (suc n) h =
     ap (λ (x : ℕ). cond (ltb x n) x (cond (f n) n (suc n))) (least_same f g n (λ k l. h k (omega arith)))
     ∙ ap (λ (x : Bool). cond (ltb (least_to g n) n) (least_to g n) (cond x n (suc n))) (h n (omega arith))
+
+-- What chains find, in these words.
+
+pub block_position : (reserve n : ℕ) (pages : List (List ℕ)) → position (λ p. takes reserve p n) pages ≡ first_block_taking reserve pages n
+block_position reserve n pages =
+    let test = λ (p : List ℕ). takes reserve p n in
+    ap (λ (k : ℕ). cond (ltb k (length pages)) (Some k) None)
+    (sym (least_is (λ b. test (get_or pages b [])) (length pages) (position_or_len test pages) (prefix_len-le-length (λ p. not (test p)) pages)
+    (λ k l. fails_before_first test pages k [] l) (passes_at_first test pages [])))
+
+one_more : (t b : Bool) (l n : ℕ) → t ≡ ltb l n
+    → option_or (cond t (Some (l + 1)) None) (cond b (Some (n + 1)) None)
+    ≡ cond (ltb (cond t l (cond b n (suc n))) (suc n)) (Some (cond t l (cond b n (suc n)) + 1)) None
+one_more true b l n e = let k : l < n = ltb-true l n (sym e) in rw (lt-ltb l (suc n) (omega arith)) refl
+one_more false true l n e = rw (lt-ltb n (suc n) (omega arith)) refl
+one_more false false l n e = rw (le-ltb (suc n) (suc n) (omega arith)) refl
+
+find_least : (f : ℕ → Bool) (n : ℕ)
+    → find f (range_with_len 1 n) ≡ cond (ltb (least_to (λ k. f (k + 1)) n) n) (Some (least_to (λ k. f (k + 1)) n + 1)) None
+find_least f zero = refl
+find_least f (suc n) =
+    let l = least_to (λ k. f (k + 1)) n in
+    ap (find f) (numbers_end n) ∙ find-append f (range_with_len 1 n) ((n + 1) ∷ [])
+    ∙ ap (λ (r : Option ℕ). option_or r (cond (f (n + 1)) (Some (n + 1)) None)) (find_least f n)
+    ∙ one_more (ltb l n) (f (n + 1)) l n refl
+
+pub found_least : (f : ℕ → Bool) (n : ℕ) → unwrap_or (find f (range_with_len 1 n)) (n + 1) ≡ least_to (λ k. f (k + 1)) n + 1
+found_least f n =
+    let l = least_to (λ k. f (k + 1)) n in
+    ap (λ (r : Option ℕ). unwrap_or r (n + 1)) (find_least f n) ∙ go (ltb l n) l refl (least_le (λ k. f (k + 1)) n)
+  where
+    go : (t : Bool) (l : ℕ) → t ≡ ltb l n → l ≤ n → unwrap_or (cond t (Some (l + 1)) None) (n + 1) ≡ l + 1
+    go true l e le = refl
+    go false l e le = let k : n ≤ l = ltb-false l n (sym e) in omega arith
+
+pub some_least : (f : ℕ → Bool) (n : ℕ) → is_some (find f (range_with_len 1 n)) ≡ ltb (least_to (λ k. f (k + 1)) n) n
+some_least f n = let l = least_to (λ k. f (k + 1)) n in ap is_some (find_least f n) ∙ go (ltb l n) l
+  where
+    go : (t : Bool) (l : ℕ) → is_some (cond t (Some (l + 1)) None) ≡ t
+    go true l = refl
+    go false l = refl

@@ -2,6 +2,7 @@
 //
 // All answers are by equality with the definitions of specs/Room.antt, for pages of any content and any reserve of bytes
 // that must stay free. Nothing is written here: the crate `page_write` puts the row.
+// A reserve and the length of a row are two parameters, as a caller has them from two places.
 
 #![tactic(auto)]
 
@@ -9,4 +10,4 @@ mod blocks;
 mod room;
 
 pub use blocks::first_block_taking;
-pub use room::{free_pointer, takes_row};
+pub use room::{free_pointer, padded, takes_row};

@@ -3,7 +3,7 @@ ghost use Rattle.std.specs.Prelude.{◌≡◌, ◌+◌, ◌≤◌};
 ghost use Rattle.page_write.specs.Changing.{rewrite, mark_removed};
 
 use crate::fields::{Removal, VersionFields};
-use page::{Address, Page, Pointer, VersionHeader, pointer_at, version_at, write16, write32};
+use page::{Address, Page, VersionHeader, version_place, write16, write32};
 
 // Writes the fields of a header that may change: remover, ctid and the two words of bits.
 pub fn rewrite_header(page: &mut Page, offset: u16, header: &VersionHeader)
@@ -22,12 +22,9 @@ pub fn rewrite_header(page: &mut Page, offset: u16, header: &VersionHeader)
 pub fn mark_removed(page: &mut Page, own: Address, remover: u32, removal: Removal)
     ensures { page.new ≡ mark_removed page.old own remover removal }
 {
-    let Pointer::Normal { offset, len: _ } = pointer_at(page, own.pointer) else {
+    let Some((offset, old)) = version_place(page, own.pointer) else {
         return;
     };
-    let Some(old) = version_at(page, offset) else {
-        return;
-    };
-    let removed = VersionFields::decode(&old).removed(remover, own, removal);
-    rewrite_header(page, offset, &removed.encode());
+    let removed = VersionFields::from(&old).removed(remover, own, removal);
+    rewrite_header(page, offset, &removed.into());
 }

@@ -6,7 +6,7 @@ ghost use Rattle.page_write.specs.Fields.{version_of, mark_if, encoded, new_vers
 use page::{Address, Mark, VersionHeader};
 
 // What makes a new version.
-#[derive(Clone, Copy)]
+#[derive(Clone, Copy, PartialEq, Eq, Debug)]
 pub enum Origin {
     Insert,
     Update,
@@ -14,7 +14,7 @@ pub enum Origin {
 }
 
 // What removes an old version: the new one that replaces it, by its address, or a delete.
-#[derive(Clone, Copy)]
+#[derive(Clone, Copy, PartialEq, Eq, Debug)]
 pub enum Removal {
     HeapOnlyUpdate(Address),
     Update(Address),
@@ -22,8 +22,8 @@ pub enum Removal {
 }
 
 // All that a version's header says beside the attribute count and the command, which are the same in every version that
-// is written.
-#[derive(Clone, Copy)]
+// is written. A remover of 0 is none, as on the page, where the bit beside it need not agree.
+#[derive(Clone, Copy, PartialEq, Eq, Debug)]
 pub struct VersionFields {
     pub creator: u32,
     pub remover: u32,
@@ -40,26 +40,20 @@ pub struct VersionFields {
 fn mark_if(set: bool, mark: Mark) -> u16
     ensures { result ≡ mark_if set mark }
 {
-    if set { mark.weight() } else { 0 }
+    if set { mark.into() } else { 0 }
 }
 
 impl Origin {
     fn is_update(self) -> bool
         ensures { result ≡ is_update self }
     {
-        match self {
-            Origin::Insert => false,
-            Origin::Update | Origin::HeapOnlyUpdate => true,
-        }
+        self != Origin::Insert
     }
 
     fn is_heap_only(self) -> bool
         ensures { result ≡ is_heap_only_update self }
     {
-        match self {
-            Origin::HeapOnlyUpdate => true,
-            Origin::Insert | Origin::Update => false,
-        }
+        self == Origin::HeapOnlyUpdate
     }
 }
 
@@ -77,15 +71,14 @@ impl Removal {
     fn is_hot(self) -> bool
         ensures { result ≡ is_hot self }
     {
-        match self {
-            Removal::HeapOnlyUpdate(_) => true,
-            Removal::Update(_) | Removal::Delete => false,
-        }
+        matches!(self, Removal::HeapOnlyUpdate(_))
     }
 }
 
-impl VersionFields {
-    pub fn decode(header: &VersionHeader) -> VersionFields
+impl From<&VersionHeader> for VersionFields {
+    ghost from_gives = { λ header fields. version_of fields ≡ decoded header.now [] };
+
+    fn from(header: &VersionHeader) -> VersionFields
         ensures { version_of result ≡ decoded header.now [] }
     {
         VersionFields {
@@ -101,29 +94,35 @@ impl VersionFields {
             ctid: header.ctid,
         }
     }
+}
 
-    // The header with these fields: one attribute, command 0.
-    pub fn encode(self) -> VersionHeader
-        ensures { result ≡ encoded (version_of self) }
+// The header with these fields: one attribute, command 0.
+impl From<VersionFields> for VersionHeader {
+    ghost from_gives = { λ fields header. header ≡ encoded (version_of fields) };
+
+    fn from(fields: VersionFields) -> VersionHeader
+        ensures { result ≡ encoded (version_of fields) }
     {
         VersionHeader {
-            creator: self.creator,
-            remover: self.remover,
+            creator: fields.creator,
+            remover: fields.remover,
             command: 0,
-            ctid: self.ctid,
+            ctid: fields.ctid,
             infomask2: 1
-                + mark_if(self.hot_updated, Mark::HotUpdated)
-                + mark_if(self.heap_only, Mark::HeapOnly),
-            infomask: mark_if(self.creator_committed, Mark::CreatorCommitted)
-                + mark_if(self.creator_invalid, Mark::CreatorInvalid)
-                + mark_if(self.remover_committed, Mark::RemoverCommitted)
-                + mark_if(self.remover_invalid, Mark::RemoverInvalid)
-                + mark_if(self.updated, Mark::Updated),
+                + mark_if(fields.hot_updated, Mark::HotUpdated)
+                + mark_if(fields.heap_only, Mark::HeapOnly),
+            infomask: mark_if(fields.creator_committed, Mark::CreatorCommitted)
+                + mark_if(fields.creator_invalid, Mark::CreatorInvalid)
+                + mark_if(fields.remover_committed, Mark::RemoverCommitted)
+                + mark_if(fields.remover_invalid, Mark::RemoverInvalid)
+                + mark_if(fields.updated, Mark::Updated),
             hoff: 24,
             zero: 0,
         }
     }
+}
 
+impl VersionFields {
     // A new version at its own address. Its remover is 0, which the bit says too.
     pub fn made(creator: u32, own: Address, origin: Origin) -> VersionFields
         ensures { version_of result ≡ new_version creator own origin [] }
@@ -147,16 +146,12 @@ impl VersionFields {
         ensures { version_of result ≡ removed_by remover (leads_to own removal) (is_hot removal) (version_of self) }
     {
         VersionFields {
-            creator: self.creator,
             remover,
-            creator_committed: self.creator_committed,
-            creator_invalid: self.creator_invalid,
             remover_committed: false,
             remover_invalid: false,
-            updated: self.updated,
             hot_updated: removal.is_hot(),
-            heap_only: self.heap_only,
             ctid: removal.leads_to(own),
+            ..self
         }
     }
 }

@@ -8,8 +8,9 @@ ghost use Rattle.page_write.specs.Placing.{write_header, write_row, write_versio
 use crate::change::rewrite_header;
 use crate::fields::{Origin, VersionFields};
 use page::{Address, Page, PageHeader, Pointer, VersionHeader, write16, write32};
-use page_room::free_pointer;
+use page_room::{free_pointer, padded};
 
+// Field by field: the offsets are what there is to say.
 fn write_header(page: &mut Page, offset: u16, header: &VersionHeader)
     requires { offset + 24 ≤ 8192 }
     ensures { page.new ≡ write_header page.old offset header.now }
@@ -37,7 +38,7 @@ fn write_version(page: &mut Page, offset: u16, header: &VersionHeader, row: &[u8
 {
     let len = 24 + row.len();
     write_header(page, offset, header);
-    write_row(page, offset as usize + 24, row, (len + 7) / 8 * 8 - len);
+    write_row(page, offset as usize + 24, row, padded(len) - len);
 }
 
 // Writes a version at `offset`, which becomes `upper`, and its pointer.
@@ -52,7 +53,7 @@ fn put_at(page: &mut Page, offset: u16, lower: u16, number: u16, header: &Versio
         offset,
         len: 24 + row.len() as u16,
     };
-    write32(page, 20 + 4 * number, pointer.encode());
+    write32(page, 20 + 4 * number, pointer.into());
 }
 
 // Where the pointers end once a version has this pointer: a new one takes 4 bytes.
@@ -72,7 +73,7 @@ fn place_for(header: &PageHeader, row_len: usize) -> u16
     requires { up8 (24 + row_len) ≤ header.now.upper }
     ensures { result ≡ header.now.upper - up8 (24 + row_len) }
 {
-    header.upper - ((24 + row_len + 7) / 8 * 8) as u16
+    header.upper - padded(24 + row_len) as u16
 }
 
 // The header of a new version.
@@ -83,7 +84,7 @@ fn new_header(block: u32, number: u16, creator: u32, origin: Origin) -> VersionH
         block,
         pointer: number,
     };
-    VersionFields::made(creator, own, origin).encode()
+    VersionFields::made(creator, own, origin).into()
 }
 
 // Puts a new version on a page that has room for it, and answers its pointer.

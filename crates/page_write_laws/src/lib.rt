@@ -10,58 +10,42 @@ ghost use Rattle.page_write_laws.specs.Edges.{EmptyLaw, EdgeLaw, Edges};
 ghost use Rattle.page_write_laws.specs.Laws.{FreeLaw, PutLaw, ChangeLaw, ChangeAllLaw, SameLaw, MarkLaw};
 
 // An empty page is lawful, and has no slots.
-pub fn empty_law() -> u8
+pub fn empty_law()
     ensures { EmptyLaw }
-{
-    0
-}
+{}
 
 // How many rows an empty page takes, for each kind.
-pub fn edge_law() -> u8
+pub fn edge_law()
     ensures law { EdgeLaw }
     ensures kinds { Edges }
-{
-    0
-}
+{}
 
 // The pointer that a new version takes is that of the lowest unused slot.
-pub fn free_law() -> u8
+pub fn free_law()
     ensures { FreeLaw }
-{
-    0
-}
+{}
 
 // A version is put on a page.
-pub fn put_law() -> u8
+pub fn put_law()
     ensures { PutLaw }
-{
-    0
-}
+{}
 
 // One version is replaced, as hint and freeze do it too.
-pub fn change_law() -> u8
+pub fn change_law()
     ensures { ChangeLaw }
-{
-    0
-}
+{}
 
 // All versions of a page are replaced, such that none names more than before.
-pub fn change_all_law() -> u8
+pub fn change_all_law()
     ensures { ChangeAllLaw }
-{
-    0
-}
+{}
 
 // What stands on a lawful page can be written over itself.
-pub fn same_law() -> u8
+pub fn same_law()
     ensures { SameLaw }
-{
-    0
-}
+{}
 
 // The old version of an update or a delete is marked.
-pub fn mark_law() -> u8
+pub fn mark_law()
     ensures { MarkLaw }
-{
-    0
-}
+{}

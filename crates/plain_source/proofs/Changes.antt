@@ -11,7 +11,7 @@ use Rattle.xid.specs.Meaning.{Known, windowed, meaning_by, forgettable, after_op
 use Rattle.xid.proofs.Distances.{distance_apart, successor_steps}
 use Rattle.xid.proofs.Stored.{opened_by, opened_known, closed_by, closed_known, open_within, forgot_by, forgot_known, forgettable_near}
 use Rattle.xid.proofs.Windows.{window_within, window_from, window_shrinks}
-use Rattle.plain_source.specs.Plain.{stored_at, Bounded}
+use Rattle.plain_source.specs.Bounded.{stored_at, Bounded}
 
 -- open: the next number's place has open
 module _ (statuses statuses' : List Status) (all : length statuses ≡ 16) (o n n' : ℕ) (wrote : statuses' ≡ set statuses (distance o n) Open) (moved : n' ≡ successor n)

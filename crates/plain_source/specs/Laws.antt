@@ -7,12 +7,14 @@ use Rattle.xid.specs.Numbers.{distance, in_window}
 use Rattle.xid.specs.Meaning.{Lawful}
 use Rattle.xid.proofs.Stored.{known_within}
 use Rattle.plain_source.specs.declared.plain.PlainSource.{PlainSource}
-use Rattle.plain_source.specs.Plain.{stored_at, meaning_of, IsSound}
+use Rattle.plain_source.specs.Bounded.{stored_at}
+use Rattle.plain_source.specs.Plain.{meaning_of}
 
-pub plain_lawful : (p : PlainSource) → IsSound p → Lawful (meaning_of p)
-plain_lawful p s =
-    let o = p.oldest in
-    let n = p.next in
+pub plain_lawful : (p : PlainSource) → Lawful (meaning_of p)
+plain_lawful p =
+    let s = p.bounded in
+    let o = p.window.oldest in
+    let n = p.window.next in
     record {
       oldest_low = s.oldest_low;
       oldest_high = s.oldest_high;

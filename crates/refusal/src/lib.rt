@@ -49,17 +49,18 @@ pub enum Refusal {
     BadOrder = 18,
 }
 
-impl Refusal {
-    pub fn number(self) -> u8
-        ensures { result ≡ refusal_number self }
+// The number of a refusal.
+impl From<Refusal> for u8 {
+    ghost from_gives = { λ refusal number. number ≡ refusal_number refusal };
+
+    fn from(refusal: Refusal) -> u8
+        ensures { result ≡ refusal_number refusal }
     {
-        self as u8
+        refusal as u8
     }
 }
 
 // No two refusals have one number.
-pub fn numbers_differ() -> u8
+pub fn numbers_differ()
     ensures { NumbersDiffer }
-{
-    0
-}
+{}

@@ -1,11 +1,8 @@
 -- Snapshots, and what is running for one; the horizon.
-use Rattle.std.specs.Prelude.{◌≡◌, ℕ, ◌<◌, Bool, not, ◌&&◌, ◌||◌, List, [], ◌∷◌, map, is_some, Some, None, filter, Option, nat_lt}
-use Rattle.std.specs.Option.{option_map}
+use Rattle.std.specs.Prelude.{◌≡◌, ℕ, ◌<◌, Bool, cond, not, ◌&&◌, ◌||◌, List, [], ◌∷◌, is_some, Some, None, filter, Option, nat_lt}
 use Rattle.std.specs.List.{best_of, prefix_len, AllByRecursion}
 use Rattle.xid.specs.Numbers.{distance, precedes, in_window}
 use Rattle.xid.specs.Meaning.{Meaning}
-use Rattle.snapshot.specs.declared.active.Active.{Active}
-use Rattle.snapshot.specs.declared.places.Places.{Places}
 use Rattle.snapshot.specs.declared.snapshots.Snapshot.{Snapshot}
 use Rattle.snapshot.specs.Lists.{numbers_of, is_listed}
 
@@ -54,6 +51,10 @@ xmins (Some s ∷ ps) = s.xmin ∷ xmins ps
 abbrev pub lowest_free : List (Option SnapshotData) → ℕ
 lowest_free ps = prefix_len is_some ps
 
+-- the first of the 16 places that is not taken
+abbrev pub first_free : List (Option SnapshotData) → Option ℕ
+first_free ps = cond (nat_lt (lowest_free ps) 16) (Some (lowest_free ps)) None
+
 -- the nearest, from the oldest number on, of the next number, the active numbers and the xmins
 abbrev pub horizon_of : ℕ → ℕ → List ℕ → List (Option SnapshotData) → ℕ
 horizon_of oldest next active places = nearest oldest (nearest oldest next active) (xmins places)
@@ -61,9 +62,3 @@ horizon_of oldest next active places = nearest oldest (nearest oldest next activ
 -- what the code holds
 abbrev pub data_of : Snapshot → SnapshotData
 data_of s = record { xmin = s.xmin; xmax = s.xmax; listed = numbers_of s.listed }
-
-abbrev pub active_of : Active → List ℕ
-active_of a = numbers_of a.numbers
-
-abbrev pub places_of : Places → List (Option SnapshotData)
-places_of p = map (option_map data_of) p.at

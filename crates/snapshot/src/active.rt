@@ -1,13 +1,13 @@
 // The active transactions, in order of beginning.
 ghost use Rattle.std.specs.Prelude.{◌≡◌, []};
-ghost use Rattle.snapshot.specs.Snapshots.{active_of, data_of, snapshot_at, Taken};
+ghost use Rattle.snapshot.specs.Snapshots.{data_of, Taken};
 ghost use Rattle.snapshot.specs.Lists.{is_listed};
 ghost use Rattle.snapshot.specs.Operations.{enter_answer, after_enter, strike_answer, after_strike};
 
-use crate::filters::Except;
 use crate::lists::XidList;
 use crate::snapshots::Snapshot;
 use refusal::Refusal;
+use std::marker::Model;
 use xid::source::StatusSource;
 
 #[derive(Drop)]
@@ -15,9 +15,19 @@ pub struct Active {
     numbers: XidList,
 }
 
+// Callers see the numbers.
+impl Model for Active {
+    ghost use Rattle.std.specs.Prelude.{List, ℕ};
+    ghost use Rattle.snapshot.specs.Lists.{numbers_of};
+
+    ghost Value = { List ℕ };
+
+    ghost view = { λ a. numbers_of a.numbers };
+}
+
 impl Active {
     pub fn new() -> Active
-        ensures { active_of result ≡ [] }
+        ensures { result ≡ [] }
     {
         Active {
             numbers: XidList::new(),
@@ -25,53 +35,45 @@ impl Active {
     }
 
     pub fn as_slice(&self) -> &[u32]
-        ensures { result.now ≡ active_of self.now }
+        ensures { result.now ≡ self.now }
     {
         self.numbers.as_slice()
     }
 
     pub fn contains(&self, x: u32) -> bool
-        ensures { result ≡ is_listed x (active_of self.now) }
+        ensures { result ≡ is_listed x self.now }
     {
         self.numbers.contains(x)
     }
 
     // Lists a number that was opened, unless 64 are listed.
     pub fn enter(&mut self, x: u32) -> Result<(), Refusal>
-        ensures answer { result ≡ enter_answer (active_of self.old) }
-        ensures numbers { active_of self.new ≡ after_enter (active_of self.old) x }
+        ensures answer { result ≡ enter_answer self.old }
+        ensures numbers { self.new ≡ after_enter self.old x }
     {
-        if self.numbers.push(x) {
-            Ok(())
-        } else {
-            Err(Refusal::TooManyActive)
+        if !self.numbers.push(x) {
+            return Err(Refusal::TooManyActive);
         }
+        Ok(())
     }
 
     // Strikes a number that ended, if it is listed.
     pub fn strike(&mut self, x: u32) -> Result<(), Refusal>
-        ensures answer { result ≡ strike_answer (active_of self.old) x }
-        ensures numbers { active_of self.new ≡ after_strike (active_of self.old) x }
+        ensures answer { result ≡ strike_answer self.old x }
+        ensures numbers { self.new ≡ after_strike self.old x }
     {
         if !self.numbers.contains(x) {
             return Err(Refusal::NotActive);
         }
-        self.numbers.retain(&Except { number: x });
+        self.numbers.retain(|y| y != x);
         Ok(())
-    }
-
-    // The snapshot for the window of a source.
-    fn snapshot_of<S: StatusSource>(&self, source: &S) -> Snapshot
-        ensures { S.StatusSource.sound source.now → data_of result ≡ snapshot_at (S.StatusSource.meaning source.now).oldest (S.StatusSource.meaning source.now).next (active_of self.now) }
-    {
-        let (oldest, next) = source.bounds();
-        Snapshot::of_window(oldest, next, &self.numbers)
     }
 
     // The snapshot of this moment, with what holds of every snapshot.
     pub fn snapshot<S: StatusSource>(&self, source: &S) -> Snapshot
-        ensures { S.StatusSource.sound source.now → Taken (S.StatusSource.meaning source.now) (active_of self.now) (data_of result) }
+        ensures { Taken (S.meaning source.now) self.now (data_of result) }
     {
-        self.snapshot_of(source)
+        let window = source.window();
+        Snapshot::of_window(window, &self.numbers)
     }
 }

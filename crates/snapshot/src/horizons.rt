@@ -1,6 +1,6 @@
 // The nearest of some numbers, and the horizon.
 ghost use Rattle.std.specs.Prelude.{◌≡◌, if◌then◌else◌};
-ghost use Rattle.snapshot.specs.Snapshots.{nearer as is_nearer, nearest as nearest_of, horizon_of, active_of, places_of};
+ghost use Rattle.snapshot.specs.Snapshots.{nearer as is_nearer, nearest as nearest_of, horizon_of};
 
 use crate::active::Active;
 use crate::places::Places;
@@ -22,19 +22,15 @@ pub fn nearer(oldest: u32, x: u32, y: u32) -> u32
 pub fn nearest(oldest: u32, first: u32, xs: &[u32]) -> u32
     ensures { result ≡ nearest_of oldest first xs.now }
 {
-    let mut best = first;
-    for x in xs {
-        best = nearer(oldest, *x, best);
-    }
-    best
+    xs.iter().fold(first, |best, x| nearer(oldest, *x, best))
 }
 
 // The oldest number that anybody may still ask about: the nearest from the source's oldest on, of the active numbers,
 // the xmins of the snapshots at their places, and the next number.
 pub fn horizon<S: StatusSource>(active: &Active, places: &Places, source: &S) -> u32
-    ensures { S.StatusSource.sound source.now → result ≡ horizon_of (S.StatusSource.meaning source.now).oldest (S.StatusSource.meaning source.now).next (active_of active.now) (places_of places.now) }
+    ensures { result ≡ horizon_of (S.meaning source.now).oldest (S.meaning source.now).next active.now places.now }
 {
-    let (oldest, next) = source.bounds();
-    let of_active = nearest(oldest, next, active.as_slice());
-    places.nearest_xmin(oldest, of_active)
+    let window = source.window();
+    let of_active = nearest(window.oldest, window.next, active.as_slice());
+    places.nearest_xmin(window.oldest, of_active)
 }

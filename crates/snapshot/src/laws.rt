@@ -2,15 +2,11 @@
 ghost use Rattle.snapshot.specs.Laws.{NearestIsLeast, HorizonIsLeast};
 
 // The nearest number has the least distance of all, and is one of them.
-pub fn nearest_is_least() -> u8
+pub fn nearest_is_least()
     ensures { NearestIsLeast }
-{
-    0
-}
+{}
 
 // So has the horizon, of the active numbers, the xmins and the next number.
-pub fn horizon_is_least() -> u8
+pub fn horizon_is_least()
     ensures { HorizonIsLeast }
-{
-    0
-}
+{}

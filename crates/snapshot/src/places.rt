@@ -1,7 +1,7 @@
 // The places for snapshots.
-ghost use Rattle.std.specs.Prelude.{◌≡◌, length};
 
 use crate::snapshots::Snapshot;
+use std::marker::Model;
 
 // How many places there are.
 pub const COUNT: usize = 16;
@@ -9,8 +9,20 @@ pub const COUNT: usize = 16;
 // A place has a snapshot, or it is free.
 #[derive(Drop)]
 pub struct Places {
-    at: [Option<Snapshot>; 16],
-    ghost all: { length at ≡ 16 },
+    at: [Option<Snapshot>; COUNT],
+}
+
+// Callers see the snapshots, and that there are 16 places.
+impl Model for Places {
+    ghost use Rattle.std.specs.Prelude.{◌≡◌, List, Option, length, map};
+    ghost use Rattle.std.specs.Option.{option_map};
+    ghost use Rattle.snapshot.specs.Snapshots.{SnapshotData, data_of};
+
+    ghost Value = { List (Option SnapshotData) };
+
+    ghost view = { λ p. map (option_map data_of) p.at };
+
+    ghost invariant = { λ p. length p.at ≡ 16 };
 }
 
 mod methods;

@@ -3,10 +3,10 @@ ghost use Rattle.std.specs.Prelude.{◌≡◌};
 ghost use Rattle.snapshot.specs.Snapshots.{data_of, running, snapshot_at};
 ghost use Rattle.snapshot.specs.Lists.{numbers_of};
 
-use crate::filters::Window;
 use crate::horizons::nearest;
 use crate::lists::XidList;
 use xid::numbers::precedes;
+use xid::window::Window;
 
 // Everything before `xmin` had ended, nothing from `xmax` on had begun, and of the numbers between, those listed were open.
 #[derive(Clone, Copy)]
@@ -18,15 +18,15 @@ pub struct Snapshot {
 
 impl Snapshot {
     // The snapshot for a window, of the numbers that are active.
-    pub(crate) fn of_window(oldest: u32, next: u32, active: &XidList) -> Snapshot
-        ensures { data_of result ≡ snapshot_at oldest next (numbers_of active.now) }
+    pub(crate) fn of_window(window: Window, active: &XidList) -> Snapshot
+        ensures { data_of result ≡ snapshot_at window.oldest window.next (numbers_of active.now) }
     {
         let mut listed = *active;
-        listed.retain(&Window { oldest, next });
-        let xmin = nearest(oldest, next, listed.as_slice());
+        listed.retain(|x| window.contains(x));
+        let xmin = nearest(window.oldest, window.next, listed.as_slice());
         Snapshot {
             xmin,
-            xmax: next,
+            xmax: window.next,
             listed,
         }
     }

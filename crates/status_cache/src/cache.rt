@@ -1,22 +1,26 @@
 // The cache as a status source.
 ghost use Rattle.std.specs.Prelude.{◌≡◌};
+ghost use Rattle.std.proofs.Props.{props};
 ghost use Rattle.status_cache.specs.Truth.{Truthful};
 
 use crate::slots::Slots;
 use xid::source::{StatusSource, TurnedDown};
 use xid::statuses::{End, Status};
+use xid::window::Window;
 
+// A source, and slots that tell what it means.
 #[derive(Drop)]
 pub struct StatusCache<S: StatusSource> {
     source: S,
     slots: Slots,
+    ghost truthful: { Truthful (S.meaning source) slots.at } by { Prim.hlevel props },
 }
 
 impl<S: StatusSource> StatusCache<S> {
     // The source under an empty cache.
+    #[tactic(auto, using(crate::proofs::Truths::emptied_truthful))]
     pub fn new(source: S) -> StatusCache<S>
-        ensures source { result.source ≡ source }
-        ensures sound { S.StatusSource.sound source → S.StatusSource.sound result.source × Truthful (S.StatusSource.meaning result.source) result.slots.at }
+        ensures { result.source ≡ source }
     {
         StatusCache {
             source,
@@ -26,14 +30,12 @@ impl<S: StatusSource> StatusCache<S> {
 }
 
 impl<S: StatusSource> StatusSource for StatusCache<S> {
-    ghost meaning = { λ c. S.StatusSource.meaning c.source };
+    ghost meaning = { λ c. S.meaning c.source };
 
-    ghost sound = { λ c. S.StatusSource.sound c.source × Truthful (S.StatusSource.meaning c.source) c.slots.at };
+    ghost lawful = { λ c. S.lawful c.source };
 
-    ghost lawful = { λ c s. S.StatusSource.lawful c.source s.0 };
-
-    fn bounds(&self) -> (u32, u32) {
-        self.source.bounds()
+    fn window(&self) -> Window {
+        self.source.window()
     }
 
     fn is_full(&self) -> bool {
@@ -42,7 +44,7 @@ impl<S: StatusSource> StatusSource for StatusCache<S> {
 
     fn status(&mut self, x: u32) -> Status {
         if let Some(end) = self.slots.find(x) {
-            return end.status();
+            return end.into();
         }
         let status = self.source.status(x);
         self.slots.note(x, status);
@@ -60,9 +62,10 @@ impl<S: StatusSource> StatusSource for StatusCache<S> {
     }
 
     // The numbers given up are unknown from now on, and come round again with another status.
+    #[tactic(auto, using(crate::proofs::Truths::emptied_truthful))]
     fn forget(&mut self, c: u32) -> Result<(), TurnedDown> {
-        let answer = self.source.forget(c);
-        self.slots.clear_if(answer.is_ok());
-        answer
+        self.source.forget(c)?;
+        self.slots = Slots::empty();
+        Ok(())
     }
 }

@@ -1,31 +1,26 @@
 // The slots of the cache, which know nothing of a source.
-ghost use Rattle.std.specs.Prelude.{◌≡◌, replicate, if◌then◌else◌};
-ghost use Rattle.status_cache.specs.Slots.{empty_slot, held_for, kept, noted};
+ghost use Rattle.std.specs.Prelude.{◌≡◌, None, replicate};
+ghost use Rattle.status_cache.specs.Slots.{held_for, kept, noted};
 
 use xid::statuses::{End, Status};
 
-// An ended number. The number 0, which no transaction has, says that the slot is empty.
-#[derive(Clone, Copy)]
-pub struct Slot {
+// A number, and how it ended.
+#[derive(Clone, Copy, PartialEq, Eq, Debug)]
+pub struct Ended {
     pub number: u32,
     pub end: End,
 }
 
 #[derive(Drop)]
 pub struct Slots {
-    at: [Slot; 64],
+    at: [Option<Ended>; 64],
 }
 
 impl Slots {
     pub fn empty() -> Slots
-        ensures { result.at ≡ replicate 64 empty_slot }
+        ensures { result.at ≡ replicate 64 None }
     {
-        Slots {
-            at: [Slot {
-                number: 0,
-                end: End::Commit,
-            }; 64],
-        }
+        Slots { at: [None; 64] }
     }
 
     // How x ended, if its slot holds it.
@@ -33,10 +28,9 @@ impl Slots {
         ensures { result ≡ held_for self.now.at x }
     {
         let slot = self.at[(x % 64) as usize];
-        if x != 0 && slot.number == x {
-            Some(slot.end)
-        } else {
-            None
+        match slot {
+            Some(ended) if ended.number == x => Some(ended.end),
+            _ => None,
         }
     }
 
@@ -44,7 +38,7 @@ impl Slots {
     fn keep(&mut self, x: u32, end: End)
         ensures { self.new.at ≡ kept self.old.at x end }
     {
-        self.at[(x % 64) as usize] = Slot { number: x, end };
+        self.at[(x % 64) as usize] = Some(Ended { number: x, end });
     }
 
     // Keeps x if it ended. An open number may still end, and one outside the window may yet be opened.
@@ -55,15 +49,6 @@ impl Slots {
             Status::Committed => self.keep(x, End::Commit),
             Status::Aborted => self.keep(x, End::Abort),
             Status::Open | Status::Unknown => {}
-        }
-    }
-
-    // Empties the slots, if numbers were given up.
-    pub fn clear_if(&mut self, forgot: bool)
-        ensures { self.new.at ≡ (if forgot then replicate 64 empty_slot else self.old.at) }
-    {
-        if forgot {
-            *self = Slots::empty();
         }
     }
 }

@@ -1,5 +1,5 @@
 -- What a transaction in a new source answers.
-use Rattle.std.specs.Prelude.{◌≡◌, ℕ, cond, Some, None, Ok, Err, Option, Result, nat_le}
+use Rattle.std.specs.Prelude.{ℕ, cond, Some, None, Ok, Err, Option, Result, nat_le}
 use Rattle.xid.specs.declared.source.TurnedDown.{TurnedDown}
 use Rattle.xid.specs.declared.source.TurnedDown.TheVariants.{Full}
 use Rattle.xid.specs.declared.statuses.Status.{Status}
@@ -10,9 +10,8 @@ use Rattle.xid.specs.Meaning.{Meaning}
 use Rattle.clog.specs.Pages.{refused_with}
 
 -- the next number, which is then committed, unless the source is full
-pub record CommittedOne (after : Type 0) (m : Meaning) (r : Result (ℕ × Status) TurnedDown) : Type 0 where
-  pub sound : after
-  pub answer : r ≡ cond m.full (Err Full) (Ok (m.next, Committed))
+abbrev pub committed_one : Meaning → Result (ℕ × Status) TurnedDown
+committed_one m = cond m.full (Err Full) (Ok (m.next, Committed))
 
 abbrev pub or_refused : Option Refusal → ℕ → Result (ℕ × Status) Refusal
 or_refused None oldest = Ok (oldest, Committed)

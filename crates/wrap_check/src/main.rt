@@ -1,8 +1,8 @@
 // Takes two-bit pages under the cache across the end of the numbers, and prints what they say.
 //
 // The memory has 64 slots, and holds committed codes at first, as a lap before would have left them. What is printed is
-// compared with `stdout`, which was written by hand from the rules. Also here, and proved: callers of the sources whose
-// contracts have no premise (`commits`), so that the soundness which the contracts of the sources start from is met.
+// compared with `stdout`, which was written by hand from the rules. Also here, and proved: what callers of the sources
+// answer (`commits`).
 
 #![tactic(auto)]
 

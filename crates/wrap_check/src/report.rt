@@ -3,15 +3,7 @@ use refusal::Refusal;
 use std::io;
 use xid::source::StatusSource;
 use xid::statuses::{End, Status};
-
-fn word(status: Status) -> &'static str {
-    match status {
-        Status::Open => "open",
-        Status::Committed => "committed",
-        Status::Aborted => "aborted",
-        Status::Unknown => "unknown",
-    }
-}
+use xid::window::Window;
 
 pub fn open<S: StatusSource>(rt: &HostRuntime, source: &mut S) -> io::Result<()> {
     match source.open_next() {
@@ -26,7 +18,7 @@ pub fn close<S: StatusSource>(
     x: u32,
     end: End,
 ) -> io::Result<()> {
-    let how = word(end.status());
+    let how = Status::from(end);
     match source.close(x, end) {
         Ok(()) => println!(rt; "{x} is now {how}"),
         Err(_) => println!(rt; "{x} is not open"),
@@ -35,7 +27,7 @@ pub fn close<S: StatusSource>(
 
 pub fn forget<S: StatusSource>(rt: &HostRuntime, source: &mut S, c: u32) -> io::Result<()> {
     let answer = source.forget(c);
-    let (oldest, next) = source.bounds();
+    let Window { oldest, next } = source.window();
     match answer {
         Ok(()) => println!(rt; "forgot up to {c}: oldest {oldest}, next {next}"),
         Err(_) => println!(rt; "did not forget up to {c}: oldest {oldest}, next {next}"),
@@ -43,19 +35,16 @@ pub fn forget<S: StatusSource>(rt: &HostRuntime, source: &mut S, c: u32) -> io::
 }
 
 pub fn status<S: StatusSource>(rt: &HostRuntime, source: &mut S, x: u32) -> io::Result<()> {
-    let told = word(source.status(x));
+    let told = source.status(x);
     println!(rt; "{x}: {told}")
 }
 
 // The number and the status of a transaction that was committed, or the number of the refusal.
 pub fn commit(rt: &HostRuntime, answer: Result<(u32, Status), Refusal>) -> io::Result<()> {
     match answer {
-        Ok((x, status)) => {
-            let told = word(status);
-            println!(rt; "new source: {x} {told}")
-        }
+        Ok((x, status)) => println!(rt; "new source: {x} {status}"),
         Err(refusal) => {
-            let number = refusal.number();
+            let number = u8::from(refusal);
             println!(rt; "new source: refused with {number}")
         }
     }

@@ -1,6 +1,6 @@
 -- What forget accepts, in words.
-use Rattle.std.proofs.Common.{◌≡◌, ℕ, ◌<◌, true, false, not, ◌||◌, eqb, Decides, sym, refl, ap, ◌∙◌, ⊎_elim, arith}
-use Rattle.std.proofs.lemmas.Bool.{cases_Bool, not-true, not_from_false, both_ways}
+use Rattle.std.proofs.Common.{◌≡◌, ℕ, ◌<◌, true, false, not, ◌||◌, eqb, Decides, sym, refl, ap, ◌∙◌, arith}
+use Rattle.std.proofs.lemmas.Bool.{not-true, not_from_false, both_ways}
 use Rattle.std.proofs.lemmas.Bool.Decides.{Decides-below_and, Decides-and, Decides-or, Decides-eqb, Decides-like}
 use Rattle.xid.specs.declared.statuses.Status.{Status}
 use Rattle.xid.specs.declared.statuses.Status.TheVariants.{Open, Committed, Aborted, Unknown}
@@ -29,10 +29,6 @@ shut s = (λ e. not-true (is_open s) e, λ e. not_from_false (is_open s) e)
 pub decides_none_open : (f : ℕ → Status) (o d : ℕ) → Decides (none_open f o d) ((k : ℕ) → k < d → is_open (f (number_at o k)) ≡ false)
 decides_none_open f o = Decides-below_and (λ k. not (is_open (f (number_at o k)))) (λ k. is_open (f (number_at o k)) ≡ false) (none_open f o)
     (λ k. shut (f (number_at o k))) refl (λ _. refl)
-
--- one more that is not open, and one that is
-pub none_open_found : (f : ℕ → Status) (o d k : ℕ) → k < d → is_open (f (number_at o k)) ≡ true → none_open f o d ≡ false
-none_open_found f o d k h e = ⊎_elim (λ t. absurd (both_ways (is_open (f (number_at o k))) ((decides_none_open f o d).0 t k h) e)) (λ g. g) (cases_Bool (none_open f o d))
 
 module _ (f : ℕ → Status) (o c : ℕ) (oh : o < 4294967296) where
   by_number : ((k : ℕ) → k < distance o c → is_open (f (number_at o k)) ≡ false) → (x : ℕ) → x < 4294967296 → distance o x < distance o c → f x ≡ Open → ⊥

@@ -3,3 +3,4 @@ pub mod Windows
 pub mod Line
 pub mod Forget
 pub mod Stored
+pub mod Ranges

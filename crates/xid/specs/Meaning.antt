@@ -5,6 +5,7 @@ use Rattle.xid.specs.declared.statuses.Status.TheVariants.{Open, Unknown}
 use Rattle.xid.specs.declared.statuses.End.{End}
 use Rattle.xid.specs.declared.source.TurnedDown.{TurnedDown}
 use Rattle.xid.specs.declared.source.TurnedDown.TheVariants.{Full, NotOpen, NotForgettable}
+use Rattle.xid.specs.declared.window.Window.{Window}
 use Rattle.xid.specs.Numbers.{distance, number_at, successor, in_window}
 use Rattle.xid.specs.Statuses.{end_status, is_open, is_known}
 
@@ -14,6 +15,10 @@ pub record Meaning : Type 0 where
   pub next : ℕ
   pub full : Bool
   pub status : ℕ → Status
+
+-- the numbers from the oldest on before the next
+abbrev pub window_of : Meaning → Window
+window_of m = record { oldest = m.oldest; next = m.next }
 
 -- What every source keeps: numbers of at least 3, a status for each number of the window and for no other, and the three laws
 -- short (the window is under 2^31), empty (nothing in the window: not full) and long (2,000,000,000 or more: full).

@@ -5,33 +5,25 @@ ghost use Rattle.xid.specs.Laws.{CodesReadBack, SuccessorIsNext, OrderInWindow, 
 use crate::source::StatusSource;
 
 // Each status is read back from its code.
-pub fn codes_read_back() -> u8
+pub fn codes_read_back()
     ensures { CodesReadBack }
-{
-    0
-}
+{}
 
 // The order of the numbers, inside a window and along all of them, round and round.
-pub fn numbers_are_ordered() -> u8
+pub fn numbers_are_ordered()
     ensures successor { SuccessorIsNext }
     ensures window { OrderInWindow }
     ensures once { NotBothBefore }
     ensures line { LineIsOrdered }
-{
-    0
-}
+{}
 
 // What forget accepts is what the rule says in words.
-pub fn forget_follows_rule() -> u8
+pub fn forget_follows_rule()
     ensures { ForgetRule }
-{
-    0
-}
+{}
 
 // The three laws: the next number is under 2^31 from the oldest, a source with an empty window is not full, and one
-// whose next number is 2,000,000,000 or more from the oldest is. Every sound source keeps them.
-pub fn laws_are_kept<S: StatusSource>(source: &S) -> u8
-    ensures { S.StatusSource.sound source.now → Lawful (S.StatusSource.meaning source.now) }
-{
-    0
-}
+// whose next number is 2,000,000,000 or more from the oldest is. Every source keeps them.
+pub fn laws_are_kept<S: StatusSource>(source: &S)
+    ensures { Lawful (S.meaning source.now) }
+{}

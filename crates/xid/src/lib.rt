@@ -16,3 +16,4 @@ pub mod lookup;
 pub mod numbers;
 pub mod source;
 pub mod statuses;
+pub mod window;

@@ -1,6 +1,6 @@
 // Transaction numbers: how far apart they are, which one comes first, and which one follows.
 ghost use Rattle.std.specs.Prelude.{◌≡◌};
-ghost use Rattle.xid.specs.Numbers.{distance as distance_of, precedes as is_before, successor as successor_of, in_window};
+ghost use Rattle.xid.specs.Numbers.{distance as distance_of, precedes as is_before, successor as successor_of};
 
 // The least number that a transaction can have.
 pub const FIRST: u32 = 3;
@@ -24,11 +24,4 @@ pub fn successor(n: u32) -> u32
     ensures { result ≡ successor_of n }
 {
     if n == u32::MAX { FIRST } else { n + 1 }
-}
-
-// Whether x is a number of the window from `oldest` on before `next`.
-pub fn in_window(oldest: u32, next: u32, x: u32) -> bool
-    ensures { result ≡ in_window oldest next x }
-{
-    x >= FIRST && distance(oldest, x) < distance(oldest, next)
 }

@@ -1,14 +1,13 @@
 // The interface of a status source, by what it means.
 //
-// A source means an oldest number, a next number, whether it is full, and a status for each number of its window.
-// What an implementation has to keep beyond its type is its `sound`. No call asks for it: each promises its answer
-// and the meaning afterwards, and that the source is sound again, of a source that was sound before. Every
-// constructor of an implementation ensures `sound`.
+// A source means an oldest number, a next number, whether it is full, and a status for each number of its window. Every
+// value of an implementation means something lawful: what its fields have to keep for that stands in the type, as ghost
+// fields. So no call has a premise, and each promises its answer and the meaning afterwards, of every source.
 ghost use Rattle.std.specs.Prelude.{◌≡◌};
-ghost use Rattle.xid.specs.Meaning.{Meaning, Lawful};
-ghost use Rattle.xid.specs.Calls.{Bounds, Told, Opened, Closed, Forgot};
+ghost use Rattle.xid.specs.Meaning.{Meaning, Lawful, window_of, open_answer, after_open, close_answer, after_close, forget_answer, after_forget};
 
 use crate::statuses::{End, Status};
+use crate::window::Window;
 
 // The one reason for which each call can be turned down.
 #[derive(Clone, Copy, PartialEq, Eq, Debug)]
@@ -25,32 +24,33 @@ pub trait StatusSource {
     // the oldest and the next number, whether the source is full, and the statuses
     ghost meaning: { Self → Meaning };
 
-    // what the type of an implementation cannot say, and its calls keep
-    ghost sound: { Self → Type 0 };
-
     // the three laws, and that the numbers of the window have a status, and no other
-    ghost lawful: { (s : Self) → sound s → Lawful (meaning s) };
+    ghost lawful: { (s : Self) → Lawful (meaning s) };
 
-    // The oldest and the next number.
-    fn bounds(&self) -> (u32, u32)
-        ensures { sound self.now → Bounds (meaning self.now) (result.0, result.1) };
+    // The window, from the oldest number on before the next.
+    fn window(&self) -> Window
+        ensures { result ≡ window_of (meaning self.now) };
 
     fn is_full(&self) -> bool
-        ensures { sound self.now → result ≡ (meaning self.now).full };
+        ensures { result ≡ (meaning self.now).full };
 
-    // The status of x. The meaning stays; a cache may fill.
+    // The status of x. A cache may fill, so that what stays of the source is said at each call.
     fn status(&mut self, x: u32) -> Status
-        ensures { sound self.old → Told (sound self.new) (meaning self.old) (meaning self.new) x result };
+        ensures answer { result ≡ (meaning self.old).status x }
+        ensures kept { meaning self.new ≡ meaning self.old };
 
     // Opens the next number, unless the source is full.
     fn open_next(&mut self) -> Result<u32, TurnedDown>
-        ensures { sound self.old → Opened (sound self.new) (meaning self.old) (meaning self.new) result };
+        ensures answer { result ≡ open_answer (meaning self.old) }
+        ensures meaning { meaning self.new ≡ after_open (meaning self.old) (meaning self.new).full };
 
     // Ends the open number x.
     fn close(&mut self, x: u32, end: End) -> Result<(), TurnedDown>
-        ensures { sound self.old → Closed (sound self.new) (meaning self.old) (meaning self.new) x end result };
+        ensures answer { result ≡ close_answer (meaning self.old) x }
+        ensures meaning { meaning self.new ≡ after_close (meaning self.old) x end (meaning self.new).full };
 
     // Gives up the numbers before c.
     fn forget(&mut self, c: u32) -> Result<(), TurnedDown>
-        ensures { sound self.old → Forgot (sound self.new) (meaning self.old) (meaning self.new) c result };
+        ensures answer { result ≡ forget_answer (meaning self.old) c }
+        ensures meaning { meaning self.new ≡ after_forget (meaning self.old) c (meaning self.new).full };
 }

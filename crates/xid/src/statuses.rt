@@ -2,6 +2,8 @@
 ghost use Rattle.std.specs.Prelude.{◌≡◌, ◌<◌};
 ghost use Rattle.xid.specs.Statuses.{code_of, status_of, end_status, is_open};
 
+use std::fmt;
+
 // What a source says of a number. Unknown is what it says of a number outside its window.
 #[derive(Clone, Copy, PartialEq, Eq, Debug)]
 pub enum Status {
@@ -19,21 +21,35 @@ pub enum End {
 }
 
 impl Status {
-    // The two-bit code of the status.
-    pub fn code(self) -> u8
-        ensures value { result ≡ code_of self }
+    pub fn is_open(self) -> bool
+        ensures { result ≡ is_open self }
+    {
+        matches!(self, Status::Open)
+    }
+}
+
+// The two-bit code of a status.
+impl From<Status> for u8 {
+    ghost from_gives = { λ status code. code ≡ code_of status };
+
+    fn from(status: Status) -> u8
+        ensures value { result ≡ code_of status }
         ensures small { result < 4 }
     {
-        match self {
+        match status {
             Status::Open => 0,
             Status::Committed => 1,
             Status::Aborted => 2,
             Status::Unknown => 3,
         }
     }
+}
 
-    // The status that has this code; every other value stands for none.
-    pub fn from_code(code: u8) -> Status
+// The status that has a code; every other value stands for none.
+impl From<u8> for Status {
+    ghost from_gives = { λ code status. status ≡ status_of code };
+
+    fn from(code: u8) -> Status
         ensures { result ≡ status_of code }
     {
         match code {
@@ -43,25 +59,29 @@ impl Status {
             _ => Status::Unknown,
         }
     }
+}
 
-    pub fn is_open(self) -> bool
-        ensures { result ≡ is_open self }
+// The status of a transaction that ended so.
+impl From<End> for Status {
+    ghost from_gives = { λ end status. status ≡ end_status end };
+
+    fn from(end: End) -> Status
+        ensures { result ≡ end_status end }
     {
-        match self {
-            Status::Open => true,
-            _ => false,
+        match end {
+            End::Commit => Status::Committed,
+            End::Abort => Status::Aborted,
         }
     }
 }
 
-impl End {
-    // The status of a transaction that ended so.
-    pub fn status(self) -> Status
-        ensures { result ≡ end_status self }
-    {
-        match self {
-            End::Commit => Status::Committed,
-            End::Abort => Status::Aborted,
-        }
+impl fmt::Display for Status {
+    fn fmt<W: fmt::Write>(&self, f: &mut fmt::Formatter<W>) -> fmt::Result {
+        f.write_str(match self {
+            Status::Open => "open",
+            Status::Committed => "committed",
+            Status::Aborted => "aborted",
+            Status::Unknown => "unknown",
+        })
     }
 }

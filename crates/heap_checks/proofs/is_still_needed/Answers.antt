@@ -1,39 +1,20 @@
-use mathlib.Core.Path.{◌≡◌, sym, ap, ◌∙◌}
-use mathlib.Core.List.{[]}
-use Prim.Native.Nat.{◌+◌, ◌≤◌}
-use native.Mathlib.Omega.{arith}
-use lib.ListN.{length, get_or}
-use Rattle.page.specs.Headers.{count_of}
-use Rattle.page.specs.Slots.{slot_no}
-use Rattle.page_check.specs.All.{any_to}
-use Rattle.page_check.proofs.All.{any_to_more, any_to_true}
-use Rattle.heap_checks.specs.Numbers.{slot_needs, page_needs}
-use Rattle.heap_checks.proofs.Asking.{of_slot}
+use Rattle.std.proofs.Common.{[], ◌∙◌, refl, sym, subst, get_or, rules, tests}
+use Rattle.std.proofs.lemmas.List.{get_or_default}
+use Rattle.std.proofs.lemmas.Iterator.{YieldsList-from_slice}
+use Rattle.std.proofs.lemmas.Iterator.Search.{any_from_yields_List}
+use Rattle.std.proofs.lemmas.Iterator.Adapters.{serves_from_places}
+use Rattle.page_check.specs.Marking.{AllLie}
+use Rattle.heap_checks.specs.Numbers.{page_needs}
+use Rattle.heap_checks.proofs.Asking.{any_at}
 use Rattle.heap_checks.proofs.is_still_needed.Goals as goal
 
-pub loop-i-preserved : goal.loop-i-preserved
-loop-i-preserved c =
-    let p = get_or c.args.pages.now c.blocks-2.block [] in
-    let last : c.loop-i.i + 1 ≤ count_of p = omega (arith, c.pointer_count-i-end.ensures) in (
-      c.loop-i.invariant.0,
-      c.loop-i.invariant.1,
-      any_to_more (λ k. slot_needs c.args.cutoff (slot_no p (k + 1))) c.loop-i.i c.loop-i.invariant.2
-          (of_slot (slot_needs c.args.cutoff) p (c.loop-i.i + 1) _ (omega arith) last c.if-is_slot_needing.ensures),
-    )
+pub any-requires-clause-callable : goal.any-requires-clause-callable
+any-requires-clause-callable c =
+    let pages = c.args.pages.now in
+    serves_from_places (YieldsList-from_slice pages cc) (λ x q r. search rules)
+    (λ x k l e _ _ _ _ _ _ _ _. subst AllLie (get_or_default pages k [] x.now l ∙ sym e) (c.requires k l))
 
-pub blocks-2-preserved : goal.blocks-2-preserved
-blocks-2-preserved c =
-    let p = get_or c.args.pages.now c.blocks-2.block [] in
-    let e : c.loop-i.i ≡ count_of p = omega (arith, c.pointer_count-i-end.ensures) in (
-      c.loop-i.invariant.0,
-      any_to_more (λ k. page_needs c.args.cutoff (get_or c.args.pages.now k [])) c.blocks-2.block c.loop-i.invariant.1
-          (ap (any_to (λ k. slot_needs c.args.cutoff (slot_no p (k + 1)))) (sym e) ∙ c.loop-i.invariant.2),
-    )
-
-pub returns-then-is_slot_needing : goal.returns-then-is_slot_needing
-returns-then-is_slot_needing c =
-    let p = get_or c.args.pages.now c.blocks-2.block [] in
-    let last : c.loop-i.i + 1 ≤ count_of p = omega (arith, c.pointer_count-i-end.ensures) in
-    sym (any_to_true (λ k. page_needs c.args.cutoff (get_or c.args.pages.now k [])) c.blocks-2.block (length c.args.pages.now) c.blocks-2-test.true
-    (any_to_true (λ k. slot_needs c.args.cutoff (slot_no p (k + 1))) c.loop-i.i (count_of p) (omega arith)
-    (of_slot (slot_needs c.args.cutoff) p (c.loop-i.i + 1) _ (omega arith) last c.if-is_slot_needing.ensures)))
+pub returns : goal.returns
+returns c =
+    any_from_yields_List (page_needs c.args.cutoff) _ _ _ c.any.ensures.ran (YieldsList-from_slice c.args.pages.now cc) (λ x b q k. search (rules, tests))
+    ∙ any_at (page_needs c.args.cutoff) [] (λ k. page_needs c.args.cutoff (get_or c.args.pages.now k [])) c.args.pages.now (λ k l. refl)

@@ -1,41 +1,28 @@
 // The plain source as a status source.
-ghost use Rattle.std.specs.Prelude.{◌≡◌, ℕ, ◌+◌, slice_index_or, slice_set};
-ghost use Rattle.plain_source.specs.Plain.{meaning_of, IsSound, Made};
+ghost use Rattle.std.specs.Prelude.{◌≡◌, ℕ, ◌+◌, slice_index_or};
+ghost use Rattle.xid.specs.Numbers.{distance as distance_of};
+ghost use Rattle.plain_source.specs.Plain.{meaning_of, Made};
 ghost use Rattle.plain_source.specs.Laws.{plain_lawful};
 
-use super::PlainSource;
+use super::{PLACES, PlainSource};
 use xid::lookup::{Lookup, is_forgettable};
-use xid::numbers::{FIRST, distance, in_window, successor};
+use xid::numbers::{FIRST, distance, successor};
 use xid::source::{StatusSource, TurnedDown};
 use xid::statuses::{End, Status};
+use xid::window::Window;
 
-// How many places there are, and the distance at which the source is full.
-const PLACES: u32 = 16;
-
+// The distance at which the source is full.
 const LIMIT: u32 = 8;
 
 // The statuses `by` places further down; unknown where none comes down.
-fn shifted(statuses: &[Status; 16], by: u32) -> [Status; 16]
+fn shifted(statuses: &[Status; PLACES], by: u32) -> [Status; PLACES]
     ensures { (k : ℕ) → slice_index_or result k Status.Unknown ≡ slice_index_or statuses.now (by + k) Status.Unknown }
 {
-    let mut down = [Status::Unknown; 16];
-    for place in 0..PLACES {
-        if by < PLACES - place {
-            down[place as usize] = statuses[(by + place) as usize];
-        }
+    let mut down = [Status::Unknown; PLACES];
+    if let Some(left) = statuses.get(by as usize..) {
+        down[..left.len()].copy_from_slice(left);
     }
     down
-}
-
-// The statuses with another one at a place, if there is such a place.
-fn placed(statuses: &[Status; 16], place: u32, status: Status) -> [Status; 16]
-    ensures { result ≡ slice_set statuses.now place status }
-{
-    let mut changed = *statuses;
-    if place < PLACES {
-        changed[place as usize] = status;
-    }
-    changed
 }
 
 impl PlainSource {
@@ -47,10 +34,19 @@ impl PlainSource {
             return None;
         }
         Some(PlainSource {
-            oldest,
-            next: oldest,
-            statuses: [Status::Unknown; 16],
+            window: Window {
+                oldest,
+                next: oldest,
+            },
+            statuses: [Status::Unknown; PLACES],
         })
+    }
+
+    // The place of a number of the window.
+    fn place(&self, x: u32) -> usize
+        ensures { result ≡ distance_of self.now.window.oldest x }
+    {
+        distance(self.window.oldest, x) as usize
     }
 }
 
@@ -58,58 +54,58 @@ impl Lookup for PlainSource {
     ghost statuses = { λ p. (meaning_of p).status };
 
     fn look(&self, x: u32) -> Status {
-        let place = distance(self.oldest, x);
-        if !in_window(self.oldest, self.next, x) || place >= PLACES {
+        if !self.window.contains(x) {
             return Status::Unknown;
         }
-        self.statuses[place as usize]
+        self.statuses[self.place(x)]
     }
 }
 
 impl StatusSource for PlainSource {
     ghost meaning = { meaning_of };
 
-    ghost sound = { IsSound };
-
     ghost lawful = { plain_lawful };
 
-    fn bounds(&self) -> (u32, u32) {
-        (self.oldest, self.next)
+    fn window(&self) -> Window {
+        self.window
     }
 
     fn is_full(&self) -> bool {
-        distance(self.oldest, self.next) >= LIMIT
+        self.window.len() >= LIMIT
     }
 
     fn status(&mut self, x: u32) -> Status {
         self.look(x)
     }
 
+    #[tactic(auto, using(crate::proofs::Changes::opened_bounded, crate::proofs::Changes::opened_meaning))]
     fn open_next(&mut self) -> Result<u32, TurnedDown> {
-        let opened = self.next;
-        let place = distance(self.oldest, opened);
-        if place >= LIMIT {
+        if self.is_full() {
             return Err(TurnedDown::Full);
         }
-        self.statuses = placed(&self.statuses, place, Status::Open);
-        self.next = successor(opened);
+        let opened = self.window.next;
+        let place = self.place(opened);
+        self.statuses[place] = Status::Open;
+        self.window.next = successor(opened);
         Ok(opened)
     }
 
+    #[tactic(auto, using(crate::proofs::Changes::closed_bounded, crate::proofs::Changes::closed_meaning))]
     fn close(&mut self, x: u32, end: End) -> Result<(), TurnedDown> {
         if !self.look(x).is_open() {
             return Err(TurnedDown::NotOpen);
         }
-        self.statuses = placed(&self.statuses, distance(self.oldest, x), end.status());
+        let place = self.place(x);
+        self.statuses[place] = end.into();
         Ok(())
     }
 
     fn forget(&mut self, c: u32) -> Result<(), TurnedDown> {
-        if !is_forgettable(self.oldest, self.next, c, self) {
+        if !is_forgettable(self.window, c, self) {
             return Err(TurnedDown::NotForgettable);
         }
-        self.statuses = shifted(&self.statuses, distance(self.oldest, c));
-        self.oldest = c;
+        self.statuses = shifted(&self.statuses, distance(self.window.oldest, c));
+        self.window.oldest = c;
         Ok(())
     }
 }

@@ -1,15 +1,8 @@
 // What can be done with a list of numbers.
-ghost use Rattle.std.specs.Prelude.{◌≡◌, ltb, [], ◌∷◌, ◌++◌, length, if◌then◌else◌, filter as kept_by, nat_lt};
-ghost use Rattle.snapshot.specs.Lists.{numbers_of, is_listed};
+ghost use Rattle.std.specs.Prelude.{◌≡◌, ℕ, Bool, [], ◌∷◌, ◌++◌, length, if◌then◌else◌, filter, nat_lt};
+ghost use Rattle.snapshot.specs.Lists.{numbers_of, is_listed, Computes};
 
-use super::{Filter, XidList};
-
-// Whether x is among the numbers.
-fn is_listed(x: u32, numbers: &[u32]) -> bool
-    ensures { result ≡ is_listed x numbers.now }
-{
-    numbers.contains(&x)
-}
+use super::XidList;
 
 impl XidList {
     pub fn new() -> XidList
@@ -30,13 +23,13 @@ impl XidList {
     pub fn contains(&self, x: u32) -> bool
         ensures { result ≡ is_listed x (numbers_of self.now) }
     {
-        is_listed(x, self.as_slice())
+        self.as_slice().contains(&x)
     }
 
-    // Adds x at the end, unless there are 64 numbers.
+    // Adds x at the end, unless there are 64 numbers, and answers whether it did, as a set does.
     pub fn push(&mut self, x: u32) -> bool
         ensures answer { result ≡ nat_lt (length (numbers_of self.old)) 64 }
-        ensures numbers { numbers_of self.new ≡ (if ltb (length (numbers_of self.old)) 64 then numbers_of self.old ++ (x ∷ []) else numbers_of self.old) }
+        ensures numbers { numbers_of self.new ≡ (if nat_lt (length (numbers_of self.old)) 64 then numbers_of self.old ++ (x ∷ []) else numbers_of self.old) }
     {
         if self.len >= 64 {
             return false;
@@ -46,14 +39,16 @@ impl XidList {
         true
     }
 
-    // Keeps the numbers that pass, in their order.
-    pub fn retain<F: Filter>(&mut self, filter: &F)
-        ensures { numbers_of self.new ≡ kept_by (F.Filter.passes filter.now) (numbers_of self.old) }
+    // Keeps the numbers that pass, in their order. Of a test that answers by a function p, these are the ones of p.
+    pub fn retain<F: Fn(u32) -> bool>(&mut self, keeps: F)
+        requires { F.IsAlwaysCallable keeps }
+        ensures { (p : ℕ → Bool) → Computes (F.post keeps) p → numbers_of self.new ≡ filter p (numbers_of self.old) }
     {
+        // By index, since the pass writes at `count` into the items that it reads at `i`.
         let mut count = 0;
         for i in 0..self.len {
             let x = self.items[i];
-            if filter.keeps(x) {
+            if keeps(x) {
                 self.items[count] = x;
                 count += 1;
             }

@@ -1,7 +1,7 @@
 // What can be done with the places.
-ghost use Rattle.std.specs.Prelude.{◌≡◌, [], ◌∷◌, replicate, is_some, None, slice_index_or, slice_set};
+ghost use Rattle.std.specs.Prelude.{◌≡◌, replicate, None, slice_index_or, slice_set};
 ghost use Rattle.std.specs.Option.{option_map};
-ghost use Rattle.snapshot.specs.Snapshots.{data_of, places_of, lowest_free, nearest as nearest_of, xmins};
+ghost use Rattle.snapshot.specs.Snapshots.{data_of, first_free, nearest as nearest_of, xmins};
 ghost use Rattle.snapshot.specs.Operations.{take_answer, after_take, free_answer, after_free};
 
 use super::{COUNT, Places};
@@ -11,43 +11,36 @@ use refusal::Refusal;
 
 impl Places {
     pub fn new() -> Places
-        ensures { places_of result ≡ replicate 16 None }
+        ensures { result ≡ replicate 16 None }
     {
-        Places { at: [None; 16] }
+        Places { at: [None; COUNT] }
     }
 
     // The snapshot at a place, if one stands there.
     pub fn get(&self, place: usize) -> Option<&Snapshot>
-        ensures { option_map (λ s. data_of s.now) result ≡ slice_index_or (places_of self.now) place None }
+        ensures { option_map (λ s. data_of s.now) result ≡ slice_index_or self.now place None }
     {
-        if place >= COUNT {
-            return None;
-        }
-        self.at[place].as_ref()
+        self.at.get(place)?.as_ref()
     }
 
-    // The lowest place without a snapshot, or 16.
-    fn lowest_free(&self) -> usize
-        ensures { result ≡ lowest_free (places_of self.now) }
+    // The lowest place without a snapshot.
+    fn lowest_free(&self) -> Option<usize>
+        ensures { result ≡ first_free self.now }
     {
+        // Not `position`: the check leaves open where it finds one in an array of these structs.
         for (i, place) in self.at.iter().enumerate() {
             if place.is_none() {
-                return i;
+                return Some(i);
             }
         }
-        COUNT
-    }
-
-    fn is_taken(&self, place: usize) -> bool
-        ensures { result ≡ is_some (slice_index_or (places_of self.now) place None) }
-    {
-        place < COUNT && self.at[place].is_some()
+        None
     }
 
     // Puts a snapshot, or none, at a place, if there is such a place.
     fn put(&mut self, place: usize, snapshot: Option<Snapshot>)
-        ensures { places_of self.new ≡ slice_set (places_of self.old) place (option_map data_of snapshot) }
+        ensures { self.new ≡ slice_set self.old place (option_map data_of snapshot) }
     {
+        // A test, and not `get_mut`: behind that the check leaves open what the places hold.
         if place < COUNT {
             self.at[place] = snapshot;
         }
@@ -55,23 +48,20 @@ impl Places {
 
     // Puts a snapshot at the lowest free place, and answers the place.
     pub fn take_lowest(&mut self, snapshot: &Snapshot) -> Result<usize, Refusal>
-        ensures answer { result ≡ take_answer (places_of self.old) }
-        ensures places { places_of self.new ≡ after_take (places_of self.old) (data_of snapshot.now) }
+        ensures answer { result ≡ take_answer self.old }
+        ensures places { self.new ≡ after_take self.old (data_of snapshot.now) }
     {
-        let place = self.lowest_free();
-        if place >= COUNT {
-            return Err(Refusal::NoPlaceFree);
-        }
+        let place = self.lowest_free().ok_or(Refusal::NoPlaceFree)?;
         self.put(place, Some(*snapshot));
         Ok(place)
     }
 
     // Takes the snapshot from a place.
     pub fn free(&mut self, place: usize) -> Result<(), Refusal>
-        ensures answer { result ≡ free_answer (places_of self.old) place }
-        ensures places { places_of self.new ≡ after_free (places_of self.old) place }
+        ensures answer { result ≡ free_answer self.old place }
+        ensures places { self.new ≡ after_free self.old place }
     {
-        if !self.is_taken(place) {
+        if self.get(place).is_none() {
             return Err(Refusal::PlaceNotTaken);
         }
         self.put(place, None);
@@ -80,22 +70,11 @@ impl Places {
 
     // The one of `first` and the xmins that lies nearest from `oldest` on.
     pub fn nearest_xmin(&self, oldest: u32, first: u32) -> u32
-        ensures { result ≡ nearest_of oldest first (xmins (places_of self.now)) }
+        ensures { result ≡ nearest_of oldest first (xmins self.now) }
     {
-        let mut best = first;
-        for place in &self.at {
-            best = nearer_xmin(oldest, place, best);
-        }
-        best
-    }
-}
-
-// The nearer one of the xmin at a place, if a snapshot stands there, and `best`.
-fn nearer_xmin(oldest: u32, place: &Option<Snapshot>, best: u32) -> u32
-    ensures { result ≡ nearest_of oldest best (xmins (option_map data_of place.now ∷ [])) }
-{
-    match place {
-        Some(snapshot) => nearer(oldest, snapshot.xmin(), best),
-        None => best,
+        self.at.iter().fold(first, |best, place| match place {
+            Some(snapshot) => nearer(oldest, snapshot.xmin(), best),
+            None => best,
+        })
     }
 }

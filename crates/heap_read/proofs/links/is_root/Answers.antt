@@ -1,9 +1,18 @@
-use Rattle.std.proofs.Common.{◌≤◌, arith}
-use Rattle.page.specs.Headers.{count_of}
-use Rattle.page_check.proofs.Slots.{has_header_at}
+use Rattle.std.proofs.Common.{◌≡◌, ◌+◌, leb, Some, None, ◌∙◌, arith, rules}
+use Rattle.std.proofs.lemmas.Bool.{cond-true, le-leb}
+use Rattle.page.specs.Versions.{header_at}
+use Rattle.page_check.specs.Marking.{Lies}
+use Rattle.page_check.proofs.Slots.{lies_no}
+use Rattle.heap_read.proofs.Shown.{number_in}
 use Rattle.heap_read.proofs.links.is_root.Goals as goal
 
-pub returns-in-None : goal.returns-in-None
-returns-in-None c =
-    let last : c.args.number ≤ count_of c.args.page.now = omega (arith, c.pointer_count.ensures) in
-    absurd (has_header_at c.args.page.now c.args.number c.in-Normal.offset c.in-Normal.len c.requires (omega arith) last c.in-Normal.ensures c.in-None.ensures)
+pub returns-in-Normal : goal.returns-in-Normal
+returns-in-Normal c =
+    let p = c.args.page.now in
+    let o = c.in-Normal.offset in
+    let i = number_in p c.args.number _ c.pointer_numbers.ensures c.if-not-contains.ensures.cases in
+    let l : Lies o c.in-Normal.len = rw (← c.in-Normal.ensures) at (lies_no p c.args.number c.requires i.0 i.1) in
+    let e : c.version_at.result ≡ Some (header_at p o) =
+    c.version_at.ensures ∙ cond-true (leb (o + 24) 8192) (Some (header_at p o)) None (le-leb (o + 24) 8192 (omega (arith, l.ends, l.holds_kind))) in
+    let d = rw e at c.is_some_and.ensures in
+    search rules

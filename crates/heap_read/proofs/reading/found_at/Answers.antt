@@ -1,19 +1,27 @@
-use Rattle.std.proofs.Common.{ℕ, ◌≤◌, List, [], get_or, sym, ap, ◌∙◌, arith}
-use Rattle.std.proofs.lemmas.List.{get_or_past}
-use Rattle.page.specs.Headers.{count_of}
+use Rattle.std.proofs.Common.{ℕ, List, [], sym, ap, ◌∙◌, subst}
 use Rattle.page.specs.Slots.{slot_no}
-use Rattle.page_check.proofs.Slots.{lies_no}
+use Rattle.page_check.specs.Marking.{AllLie}
+use Rattle.page_check.proofs.Slots.{slot_no_in, lies_no}
 use Rattle.heap_read.specs.Reading.{found_in}
-use Rattle.heap_read.proofs.Shown.{slot_no_nowhere}
+use Rattle.heap_read.proofs.Shown.{number_in, slot_out}
 use Rattle.heap_read.proofs.reading.found_at.Goals as goal
-
-pub returns-then-address-pages : goal.returns-then-address-pages
-returns-then-address-pages c =
-    sym (ap (λ (p : List ℕ). found_in c.args.address (slot_no p c.args.address.pointer)) (get_or_past c.args.pages.now c.args.address.block [] c.if-address-pages.true)
-    ∙ ap (found_in c.args.address) (slot_no_nowhere c.args.address.pointer))
 
 pub found_on-requires : goal.found_on-requires
 found_on-requires c =
-    let p = get_or c.args.pages.now c.args.address.block [] in
-    let last : c.args.address.pointer ≤ count_of p = omega (arith, c.pointer_count.ensures) in
-    lies_no p c.args.address.pointer (c.requires c.args.address.block (omega arith)) (omega arith) last
+    let page = c.in_ok-page.ensures.lookup.3 in
+    let i = number_in c.in_ok-page.page.now c.args.address.pointer _ c.pointer_numbers.ensures c.if-not-contains.ensures.cases in
+    lies_no c.in_ok-page.page.now c.args.address.pointer (subst AllLie (sym (page.1 [])) (c.requires c.args.address.block page.0)) i.0 i.1
+
+pub returns-then-not-contains : goal.returns-then-not-contains
+returns-then-not-contains c =
+    let a = c.args.address in
+    let page = c.in_ok-page.ensures.lookup.3 in
+    sym (ap (found_in a) (slot_out c.in_ok-page.page.now a.pointer _ c.pointer_numbers.ensures c.if-not-contains.ensures.cases))
+    ∙ ap (λ (p : List ℕ). found_in a (slot_no p a.pointer)) (page.1 [])
+
+pub returns : goal.returns
+returns c =
+    let a = c.args.address in
+    let page = c.in_ok-page.ensures.lookup.3 in
+    let i = number_in c.in_ok-page.page.now a.pointer _ c.pointer_numbers.ensures c.if-not-contains.ensures.cases in
+    c.found_on.ensures ∙ ap (found_in a) (sym (slot_no_in c.in_ok-page.page.now a.pointer i.0 i.1)) ∙ ap (λ (p : List ℕ). found_in a (slot_no p a.pointer)) (page.1 [])

@@ -1,20 +1,25 @@
-use Rattle.std.proofs.Common.{◌∙◌}
-use Rattle.heap_upkeep.proofs.FreezeSteps.{marked_one}
+use Rattle.std.proofs.Common.{◌≡◌, [], ap, ◌∙◌}
+use Rattle.page.specs.Slots.{decoded}
+use Rattle.page_write.specs.Fields.{encoded}
+use Rattle.xid.specs.Meaning.{Meaning}
+use Rattle.heap_upkeep.specs.Along.{one}
+use Rattle.heap_upkeep.specs.Freezing.{frozen_at, to_freeze, to_clear}
+use Rattle.heap_upkeep.proofs.Changes.{one_from, changed_one, counted_one}
 use Rattle.heap_upkeep.proofs.freeze.mark_one.Goals as goal
 
-pub returns : goal.returns
-returns g c = record {
-  few = (c.count_if.ensures.small, c.count_if-2.ensures.small);
-  marks = λ s.
-      let m = g.S.StatusSource.meaning in
-      let e = c.is_to_freeze-freeze.ensures s in
-      let f = c.is_to_clear-clear.ensures e.sound in
-      record {
-        sound = f.sound;
-        kept = f.kept ∙ e.kept;
-        answer = marked_one (m c.args.source.now) (m c.is_to_freeze-freeze.new.source) c.args.cutoff c.args.page.now c.args.number c.in-Normal.offset c.in-Normal.len c.in-Some.version
-            c.is_to_freeze-freeze.result c.is_to_clear-clear.result c.in-Normal.ensures c.in-Some.ensures e.answer e.kept f.answer
-            c.decode.result c.with_marks-fields.result c.encode.result c.rewrite_header.new.page c.count_if.result c.count_if-2.result
-            c.decode.ensures c.with_marks-fields.ensures c.encode.ensures c.rewrite_header.ensures c.count_if.ensures.value c.count_if-2.ensures.value;
-      };
-}
+pub returns-clause-marks : goal.returns-clause-marks
+returns-clause-marks g c =
+    let m = g.S.StatusSource.meaning c.args.source.now in
+    let cut = c.args.cutoff in
+    let p = c.args.page.now in
+    let v = c.in-Some.version in
+    let told : c.is_to_clear-clear.result ≡ to_clear m.status cut (decoded v []) =
+    c.is_to_clear-clear.ensures.answer ∙ ap (λ (x : Meaning). to_clear x.status cut (decoded v [])) c.is_to_freeze-freeze.ensures.kept in
+    let h : c.into.result ≡ encoded (frozen_at m.status cut (decoded v [])) = cc in
+    let x = c.from-2.ensures ∙ one_from c.is_to_freeze-freeze.result ∙ ap one c.is_to_freeze-freeze.ensures.answer in
+    let y = c.from-3.ensures ∙ one_from c.is_to_clear-clear.result ∙ ap one told in
+    record {
+      bytes = changed_one p c.args.number c.in-Some.offset v c.in-Some.ensures (frozen_at m.status cut) c.into.result c.rewrite_header.new.page (λ row. h) c.rewrite_header.ensures;
+      frozen = counted_one p c.args.number c.in-Some.offset v c.in-Some.ensures (λ w. one (to_freeze m.status cut w)) _ (λ row. x);
+      cleared = counted_one p c.args.number c.in-Some.offset v c.in-Some.ensures (λ w. one (to_clear m.status cut w)) _ (λ row. y);
+    }

@@ -1,25 +1,29 @@
-use Rattle.std.proofs.Common.{◌∙◌, arith}
+use Rattle.std.proofs.Common.{◌≡◌, ◌-◌, sym, ◌∙◌, arith}
+use Rattle.page.specs.Headers.{count_of}
 use Rattle.xid.specs.Meaning.{Meaning}
 use Rattle.heap_upkeep.specs.Along.{one}
 use Rattle.heap_upkeep.specs.Freezing.{to_freeze, to_clear, frozen_at}
 use Rattle.heap_upkeep.proofs.Changes.{changed_more, counted_more}
 use Rattle.heap_upkeep.proofs.freeze.mark_page.Goals as goal
 
-pub loop-i-preserved : goal.loop-i-preserved
-loop-i-preserved g c =
-    let m = g.S.StatusSource.meaning in
-    let cut = c.args.cutoff in (
-      omega (arith, c.mark_one-one.ensures.few.0),
-      omega (arith, c.mark_one-one.ensures.few.1),
-      λ s.
-          let i = c.loop-i.invariant.2 s in
-          let e = c.mark_one-one.ensures.marks i.0 in (
-            e.sound,
-            e.kept ∙ i.1,
-            changed_more (λ (x : Meaning). frozen_at x.status cut) (m c.args.source.now) (m c.loop-i.source) c.args.page.now c.loop-i.page c.loop-i.i i.1 i.2 c.mark_one-one.new.page e.answer.bytes,
-            counted_more (λ (x : Meaning). frozen_at x.status cut) (m c.args.source.now) (m c.loop-i.source) c.args.page.now c.loop-i.page c.loop-i.i i.1 i.2
-                (λ (x : Meaning). λ v. one (to_freeze x.status cut v)) c.loop-i.frozen c.mark_one-one.result.frozen i.3 e.answer.frozen,
-            counted_more (λ (x : Meaning). frozen_at x.status cut) (m c.args.source.now) (m c.loop-i.source) c.args.page.now c.loop-i.page c.loop-i.i i.1 i.2
-                (λ (x : Meaning). λ v. one (to_clear x.status cut v)) c.loop-i.cleared c.mark_one-one.result.cleared i.4 e.answer.cleared,
-          ),
+pub loop-number-preserved : goal.loop-number-preserved
+loop-number-preserved g c =
+    let m = g.S.StatusSource.meaning c.args.source.now in
+    let cut = c.args.cutoff in
+    let p = c.args.page.now in
+    let i = c.loop-number.invariant in
+    let e = c.mark_one-one.ensures in
+    let F = λ (x : Meaning). frozen_at x.status cut in (
+      omega (arith, e.few.0),
+      omega (arith, e.few.1),
+      e.kept ∙ i.2,
+      changed_more F m _ p c.loop-number.page c.loop-number.number (omega arith) i.2 i.3 c.mark_one-one.new.page e.marks.bytes,
+      counted_more F m _ p c.loop-number.page c.loop-number.number (omega arith) i.2 i.3 (λ (x : Meaning). λ v. one (to_freeze x.status cut v)) _ _ i.4 e.marks.frozen,
+      counted_more F m _ p c.loop-number.page c.loop-number.number (omega arith) i.2 i.3 (λ (x : Meaning). λ v. one (to_clear x.status cut v)) _ _ i.5 e.marks.cleared,
     )
+
+pub returns-clause-marks : goal.returns-clause-marks
+returns-clause-marks g c =
+    let i = c.loop-number.invariant in
+    let e : c.loop-number.number - 1 ≡ count_of c.args.page.now = omega arith in
+    record { bytes = rw (sym e) i.3; frozen = rw (sym e) i.4; cleared = rw (sym e) i.5 }

@@ -1,24 +1,25 @@
-use Rattle.std.proofs.Common.{◌∙◌, arith}
-use Rattle.heap_upkeep.proofs.HintSteps.{hinted_one, hints_counted}
+use Rattle.std.proofs.Common.{◌≡◌, ◌+◌, [], ap, ◌∙◌}
+use Rattle.page.specs.Slots.{decoded}
+use Rattle.page_write.specs.Fields.{encoded}
+use Rattle.xid.specs.Meaning.{Meaning}
+use Rattle.heap_upkeep.specs.Hints.{hinted, remover_news, bits_set}
+use Rattle.heap_upkeep.proofs.Changes.{changed_one, counted_one}
 use Rattle.heap_upkeep.proofs.hint.hint_one.Goals as goal
 
-pub returns : goal.returns
-returns g c = record {
-  few = omega (arith, c.bits_of.ensures.small, c.bits_of-2.ensures.small);
-  hint = λ s.
-      let m = g.S.StatusSource.meaning in
-      let p = c.args.page.now in
-      let e = c.creator_news-creator.ensures s in
-      let f = c.remover_news-remover.ensures e.sound in
-      record {
-        sound = f.sound;
-        kept = f.kept ∙ e.kept;
-        answer = (
-          hinted_one (m c.args.source.now) (m c.creator_news-creator.new.source) p c.args.number c.in-Normal.offset c.in-Normal.len c.in-Some.version c.creator_news-creator.result c.remover_news-remover.result
-              c.in-Normal.ensures c.in-Some.ensures e.answer e.kept f.answer c.decode.result c.with_news-fields.result c.encode.result c.rewrite_header.new.page
-              c.decode.ensures c.with_news-fields.ensures c.encode.ensures c.rewrite_header.ensures,
-          hints_counted (m c.args.source.now) (m c.creator_news-creator.new.source) p c.args.number c.in-Normal.offset c.in-Normal.len c.in-Some.version c.creator_news-creator.result c.remover_news-remover.result
-              c.in-Normal.ensures c.in-Some.ensures e.answer e.kept f.answer c.bits_of.result c.bits_of-2.result c.bits_of.ensures.value c.bits_of-2.ensures.value,
-        );
-      };
-}
+pub returns-clause-page : goal.returns-clause-page
+returns-clause-page g c =
+    let m = g.S.StatusSource.meaning c.args.source.now in
+    let v = c.in-Some.version in
+    let told : c.remover_news-remover.result ≡ remover_news m.status (decoded v []) =
+    c.remover_news-remover.ensures.answer ∙ ap (λ (x : Meaning). remover_news x.status (decoded v [])) c.creator_news-creator.ensures.kept in
+    let h : c.into.result ≡ encoded (hinted m.status (decoded v [])) = cc in
+    changed_one c.args.page.now c.args.number c.in-Some.offset v c.in-Some.ensures (hinted m.status) c.into.result c.rewrite_header.new.page (λ row. h) c.rewrite_header.ensures
+
+pub returns-clause-bits : goal.returns-clause-bits
+returns-clause-bits g c =
+    let m = g.S.StatusSource.meaning c.args.source.now in
+    let v = c.in-Some.version in
+    let told : c.remover_news-remover.result ≡ remover_news m.status (decoded v []) =
+    c.remover_news-remover.ensures.answer ∙ ap (λ (x : Meaning). remover_news x.status (decoded v [])) c.creator_news-creator.ensures.kept in
+    let n : c.bits_of.result + c.bits_of-2.result ≡ bits_set m.status (decoded v []) = cc in
+    counted_one c.args.page.now c.args.number c.in-Some.offset v c.in-Some.ensures (bits_set m.status) (c.bits_of.result + c.bits_of-2.result) (λ row. n)

@@ -1,19 +1,16 @@
-use Rattle.std.proofs.Common.{ℕ, ◌<◌, sym, ap, ◌∙◌, arith, below_more}
-use Rattle.xid.specs.Numbers.{distance}
+use Rattle.std.proofs.Common.{not, refl, ap, ◌∙◌, arith, rules, tests}
+use Rattle.std.proofs.lemmas.Iterator.{YieldsList-from_range}
+use Rattle.std.proofs.lemmas.Iterator.Search.{all_from_yields_List}
+use Rattle.xid.specs.Numbers.{number_at}
 use Rattle.xid.specs.Statuses.{is_open}
-use Rattle.xid.proofs.Forget.{decides_none_open, none_open_found}
+use Rattle.xid.specs.Meaning.{none_open}
+use Rattle.xid.proofs.Ranges.{all_shut}
 use Rattle.xid.proofs.lookup.none_open_before.Goals as goal
-
-pub returns-then-is_open : goal.returns-then-is_open
-returns-then-is_open g c =
-    let here : c.loop-away.away < distance c.args.oldest c.args.c = omega arith in
-    sym (none_open_found (g.L.Lookup.statuses c.args.source.now) c.args.oldest (distance c.args.oldest c.args.c) c.loop-away.away here
-    (ap is_open (sym c.look.ensures) ∙ sym c.is_open.ensures ∙ c.if-is_open.true))
-
-pub loop-away-preserved : goal.loop-away-preserved
-loop-away-preserved g c = below_more _ _ c.loop-away.invariant (ap is_open (sym c.look.ensures) ∙ sym c.is_open.ensures ∙ c.if-is_open.false)
 
 pub returns : goal.returns
 returns g c =
-    sym ((decides_none_open (g.L.Lookup.statuses c.args.source.now) c.args.oldest (distance c.args.oldest c.args.c)).1
-    (λ (k : ℕ) (h : k < distance c.args.oldest c.args.c). c.loop-away.invariant k (omega arith)))
+    let status = g.L.Lookup.statuses c.args.source.now in
+    let oldest = c.args.oldest in
+    all_from_yields_List (λ k. not (is_open (status (number_at oldest k)))) _ _ _ c.all.ensures.ran
+    (YieldsList-from_range 0 _ _ refl (omega arith)) (λ x b q k. search (rules, tests))
+    ∙ all_shut status oldest c.distance.result ∙ ap (none_open status oldest) c.distance.ensures

@@ -1,18 +1,11 @@
-use Rattle.std.proofs.Common.{arith}
-use Rattle.plain_source.proofs.Shifting.{shifts_one, shifts_none, shifted_all}
+use Rattle.std.proofs.Common.{◌++◌, drop, get_or, length, replicate, ap, ◌∙◌}
+use Rattle.xid.specs.declared.statuses.Status.TheVariants.{Unknown}
+use Rattle.plain_source.proofs.Shifting.{left_from, moved_down}
 use Rattle.plain_source.proofs.plain.calls.shifted.Goals as goal
-use Rattle.plain_source.proofs.plain.calls.shifted.Goals.{then-by-place, else-by-place}
 
-pub loop-place-preserved : goal.loop-place-preserved
-loop-place-preserved c =
+pub returns-in-Some : goal.returns-in-Some
+returns-in-Some c = λ k.
     let statuses = c.args.statuses.now in
-    let down = c.loop-place.down in
-    let place = c.loop-place.place in
-    elim c.if-by-place.branch [
-      | then-by-place w ↦ shifts_one statuses down c.if-by-place.down c.args.by place c.told-statuses c.loop-place.invariant c.loop-place-test.true
-          (omega (arith, w.if-by-place.true)) w.down-is
-      | else-by-place w ↦ shifts_none statuses down c.if-by-place.down c.args.by place c.told-statuses c.loop-place.invariant (omega (arith, w.if-by-place.false)) w.down-is
-    ]
-
-pub returns : goal.returns
-returns c = shifted_all c.args.statuses.now c.loop-place.down c.loop-place.down c.args.by c.loop-place.place c.told-statuses c.loop-place.invariant c.loop-place-test.false
+    let left = c.in-Some.left.now in
+    let came = c.in-Some.ensures.lookup.0.2 ∙ left_from statuses c.args.by in
+    ap (λ xs. get_or (xs ++ drop (length left) (replicate 16 Unknown)) k Unknown) c.copy_from_slice.ensures.after ∙ moved_down statuses left c.args.by 16 k came

@@ -4,4 +4,4 @@ use Rattle.snapshot.proofs.places.Places.lowest_free.Given as goal
 
 -- the places passed are taken
 abbrev pub invariant-loop-i : goal.invariant-loop-i
-invariant-loop-i l = l.i + prefix_len is_some (drop l.i l.self.at) ≡ prefix_len is_some l.self.at
+invariant-loop-i l = l.i + prefix_len is_some (drop l.i l.place-items) ≡ prefix_len is_some l.place-items
