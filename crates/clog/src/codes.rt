@@ -25,7 +25,8 @@ fn with_code(byte: u8, x: u32, status: Status) -> u8
     }
 }
 
-// The status in the slot of x. No memory reads as zeros.
+// The status in the slot of x. No memory reads as zeros. Where the byte lies is said here and in the next: as a function it would
+// answer an option for the one memory that has no bytes.
 pub fn read_slot(memory: &[u8], x: u32) -> Status
     ensures { result ≡ status_of (code_at memory.now x) }
 {

@@ -44,6 +44,7 @@ pub fn is_page_known(window: Window, page: &Page) -> bool
 pub fn is_version_needing(cutoff: u32, version: &VersionHeader) -> bool
     ensures { result ≡ version_needs cutoff (decoded version.now []) }
 {
+    // By its two marks, as in reports: no shorter as a function of its own.
     let frozen = version.has(Mark::CreatorCommitted) && version.has(Mark::CreatorInvalid);
     let creator = !frozen && precedes(version.creator, cutoff);
     let remover = version.remover != 0 && precedes(version.remover, cutoff);

@@ -131,6 +131,7 @@ fn write_version_header<W: fmt::Write>(
 
 // The names of the marks that are set, with a blank between two. Both marks of the creator mean that it is frozen.
 fn write_marks<W: fmt::Write>(version: &VersionHeader, f: &mut fmt::Formatter<W>) -> fmt::Result {
+    // By its two marks, which are named one by one below.
     let frozen = version.has(Mark::CreatorCommitted) && version.has(Mark::CreatorInvalid);
     let mut gap = "";
     if frozen {

@@ -1,4 +1,5 @@
-// Operations on a page of block 0 that is checked first: `None` where it is not lawful.
+// Operations on a page of block 0 that is checked first: `None` where it is not lawful. Each has the test itself, since a function
+// for it would need a contract that is longer than the test.
 use heap_read::links::first_visible;
 use heap_upkeep::freeze::{FreezeCount, freeze_at};
 use heap_upkeep::prune::prune_at;
