@@ -1,9 +1,9 @@
 -- A chain over the numbers of a page asks what a test of its slots asks.
-use Rattle.std.proofs.Common.{◌≡◌, ℕ, zero, suc, ◌+◌, ◌<◌, Bool, true, false, cond, ◌&&◌, ◌||◌, leb, List, [], ◌∷◌, length, get_or, Some, None, Option, sym, refl, ap, ◌∙◌, add-one, arith}
+use Rattle.std.proofs.Common.{◌≡◌, ℕ, ◌+◌, Bool, true, false, cond, ◌&&◌, leb, List, [], Some, None, Option, sym, refl, ap, ◌∙◌, arith}
 use mathlib.Core.Path.{fun_ext}
 use Rattle.std.proofs.lemmas.Bool.{and_parts, leb-true, le-leb, cond-true}
 use Rattle.std.specs.Option.{option_map_or}
-use Rattle.std.specs.List.{list_all, list_any, range_with_len}
+use Rattle.std.specs.List.{list_all, range_with_len}
 use Rattle.page.specs.Headers.{count_of}
 use Rattle.page.specs.LinePointers.{pointer_at}
 use Rattle.page.specs.Versions.{header_at, row_of}
@@ -12,11 +12,10 @@ use Rattle.page.specs.Slots.Slot.{unused, dead, redirect, holds}
 use Rattle.page.specs.declared.line_pointers.Pointer.{Pointer}
 use Rattle.page.specs.declared.line_pointers.Pointer.TheVariants.{Unused, Normal, Redirect, Dead}
 use Rattle.page.specs.declared.versions.VersionHeader.{VersionHeader}
-use Rattle.page_check.specs.All.{any_to}
 use Rattle.page_check.specs.Marking.{LiesIn, AllLie}
-use Rattle.page_check.proofs.Ranges.{each_list, any_list}
+use Rattle.page_check.proofs.Ranges.{each_list}
 use Rattle.page_check.proofs.Slots.{lies_no}
-use Rattle.heap_checks.specs.Numbers.{version_known, slot_known, page_known, version_needs, slot_needs, page_needs}
+use Rattle.heap_checks.specs.Numbers.{version_known, slot_known, page_known, version_needs, slot_needs}
 
 -- what is asked of the header of a number's version, where there is one, is what is asked of its slot
 module _ (F : Slot → Bool) (d : Bool) (bare : F unused ≡ d) (bare_dead : F dead ≡ d) (bare_redirect : (t : ℕ) → F (redirect t) ≡ d)
@@ -48,26 +47,6 @@ all_known oldest next p lie =
     ap (λ (t : ℕ → Bool). list_all t (range_with_len 1 (count_of p))) (asks_slots (slot_known oldest next) true refl refl (λ t. refl) (λ v. version_known oldest next (decoded v [])) (λ v row. refl) p lie)
     ∙ each_list (λ n. slot_known oldest next (slot_no p n)) (count_of p)
 
--- some version of a page needs a number before the cutoff
-pub some_needs : (c : ℕ) (p : List ℕ) → AllLie p
-    → list_any (λ n. option_map_or (λ v. version_needs c (decoded v [])) (header_no p n) false) (range_with_len 1 (count_of p)) ≡ page_needs c p
-some_needs c p lie =
-    ap (λ (t : ℕ → Bool). list_any t (range_with_len 1 (count_of p))) (asks_slots (slot_needs c) false refl refl (λ t. refl) (λ v. version_needs c (decoded v [])) (λ v row. refl) p lie)
-    ∙ any_list (λ n. slot_needs c (slot_no p n)) (count_of p)
-
-or_swap : (a b c : Bool) → (a || (b || c)) ≡ (b || (a || c))
-or_swap false b c = refl
-or_swap true true c = refl
-or_swap true false c = refl
-
-any_first : (f : ℕ → Bool) (n : ℕ) → any_to f (suc n) ≡ (f 0 || any_to (λ k. f (k + 1)) n)
-any_first f zero = refl
-any_first f (suc n) = rw (any_first f n, add-one) (or_swap (f (suc n)) (f 0) (any_to (λ k. f (k + 1)) n))
-
--- a test of some item of a list is one of some place of it
-pub any_at : {X : Type 0} (f : X → Bool) (d : X) (g : ℕ → Bool) (xs : List X) → ((k : ℕ) → k < length xs → f (get_or xs k d) ≡ g k) → list_any f xs ≡ any_to g (length xs)
-any_at f d g [] h = refl
-any_at f d g (x ∷ xs) h =
-    let a : f x ≡ g 0 = h 0 (omega arith) in
-    let b = any_at f d (λ k. g (k + 1)) xs (λ k l. rw add-one (h (suc k) (omega arith))) in
-    rw (a, b) (sym (any_first g (length xs)))
+-- the version of a number needs a number before the cutoff
+pub needs_no : (c : ℕ) (p : List ℕ) → AllLie p → (n : ℕ) → option_map_or (λ v. version_needs c (decoded v [])) (header_no p n) false ≡ slot_needs c (slot_no p n)
+needs_no c p lie = at_number (slot_needs c) false refl refl (λ t. refl) (λ v. version_needs c (decoded v [])) (λ v row. refl) p lie

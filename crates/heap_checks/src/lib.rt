@@ -8,11 +8,11 @@
 #![tactic(auto)]
 
 ghost use Rattle.std.specs.Prelude.{◌≡◌, []};
-ghost use Rattle.page.specs.Slots.{decoded};
+ghost use Rattle.page.specs.Slots.{decoded, slot_no};
 ghost use Rattle.page_check.specs.Marking.{AllLie, PagesLie};
-ghost use Rattle.heap_checks.specs.Numbers.{version_known, page_known, version_needs, page_needs, still_needed};
+ghost use Rattle.heap_checks.specs.Numbers.{version_known, page_known, version_needs, slot_needs, still_needed};
 
-use page::{Mark, Page, VersionHeader, pointer_numbers, version_of};
+use page::{Mark, Page, VersionHeader, pointer_count, pointer_numbers, version_of};
 use xid::numbers::precedes;
 use xid::window::Window;
 
@@ -51,19 +51,29 @@ pub fn is_version_needing(cutoff: u32, version: &VersionHeader) -> bool
     creator || remover
 }
 
-fn is_page_needing(cutoff: u32, page: &Page) -> bool
+// Whether a line pointer has a version that needs a number before the cutoff.
+fn is_slot_needing(cutoff: u32, page: &Page, number: u16) -> bool
     requires { AllLie page.now }
-    ensures { result ≡ page_needs cutoff page.now }
+    ensures { result ≡ slot_needs cutoff (slot_no page.now number) }
 {
-    pointer_numbers(page).any(|number| {
-        version_of(page, number).is_some_and(|version| is_version_needing(cutoff, &version))
-    })
+    version_of(page, number).is_some_and(|version| is_version_needing(cutoff, &version))
 }
 
-// Whether some version of some page still needs a number before the cutoff.
+// Whether some version of some page still needs a number before the cutoff. The loops over blocks and pointers are both left by
+// their label, and go by index: so the project wants this search to read, beside that for a place.
 pub fn is_still_needed(pages: &[Page], cutoff: u32) -> bool
     requires { PagesLie pages.now }
     ensures { result ≡ still_needed cutoff pages.now }
 {
-    pages.iter().any(|page| is_page_needing(cutoff, page))
+    let mut needed = false;
+    'blocks: for block in 0..pages.len() {
+        let page = &pages[block];
+        for i in 0..pointer_count(page) {
+            if is_slot_needing(cutoff, page, i + 1) {
+                needed = true;
+                break 'blocks;
+            }
+        }
+    }
+    needed
 }

@@ -4,7 +4,7 @@ use Rattle.std.proofs.lemmas.Bool.{cond-true, cond-false, lt-ltb, le-ltb, ltb-tr
 use Rattle.std.specs.Option.{option_or}
 use Rattle.std.specs.List.{find, range_with_len, position, position_or_len}
 use Rattle.std.proofs.lemmas.List.Folds.{find-append}
-use Rattle.std.proofs.lemmas.List.Sums.{fails_before_first, passes_at_first, prefix_len-le-length}
+use Rattle.std.proofs.lemmas.List.Sums.{fails_before_first, passes_at_first, position_or_len_is, prefix_len-le-length}
 use Rattle.page.proofs.Numbers.{numbers_end}
 use Rattle.page_room.specs.Room.{least_to, takes, first_block_taking}
 
@@ -104,3 +104,15 @@ some_least f n = let l = least_to (λ k. f (k + 1)) n in ap is_some (find_least 
     go : (t : Bool) (l : ℕ) → is_some (cond t (Some (l + 1)) None) ≡ t
     go true l = refl
     go false l = refl
+
+-- the first of a list that passes: none, where all fail, or the one behind those that fail
+pub none_passes : {X : Type 0} (p : X → Bool) (d : X) (xs : List X) (i : ℕ) → i ≡ length xs → ((k : ℕ) → k < i → p (get_or xs k d) ≡ false) → None ≡ position p xs
+none_passes p d xs i e fails =
+    let at = position_or_len_is p xs i d (omega arith) fails (λ l. absurd (omega arith)) in
+    sym (cond-false (ltb (position_or_len p xs) (length xs)) (Some (position_or_len p xs)) None (le-ltb (position_or_len p xs) (length xs) (omega (arith, at))))
+
+pub first_passes : {X : Type 0} (p : X → Bool) (d : X) (xs : List X) (i : ℕ) → i < length xs → ((k : ℕ) → k < i → p (get_or xs k d) ≡ false) → p (get_or xs i d) ≡ true
+    → Some i ≡ position p xs
+first_passes p d xs i l fails passes =
+    let at = position_or_len_is p xs i d (omega arith) fails (λ _. passes) in
+    sym (cond-true (ltb (position_or_len p xs) (length xs)) (Some (position_or_len p xs)) None (lt-ltb (position_or_len p xs) (length xs) (omega (arith, at))) ∙ ap Some at)

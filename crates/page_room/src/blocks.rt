@@ -9,9 +9,17 @@ use page::Page;
 fn place_taking(pages: &[Page], reserve: u16, row_len: usize) -> Option<usize>
     ensures { result ≡ position (λ p. takes reserve p (24 + row_len)) pages.now }
 {
-    pages
-        .iter()
-        .position(|page| takes_row(reserve, page, row_len))
+    let mut block = 0;
+    // The loop over the blocks yields the one that takes the row by `break`: so the project wants its search for a place to read.
+    loop {
+        if block == pages.len() {
+            break None;
+        }
+        if takes_row(reserve, &pages[block], row_len) {
+            break Some(block);
+        }
+        block += 1;
+    }
 }
 
 // The lowest block whose page takes a row, such that `reserve` bytes stay free. There are no more pages than block numbers.
