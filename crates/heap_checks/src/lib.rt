@@ -59,8 +59,8 @@ fn is_slot_needing(cutoff: u32, page: &Page, number: u16) -> bool
     version_of(page, number).is_some_and(|version| is_version_needing(cutoff, &version))
 }
 
-// Whether some version of some page still needs a number before the cutoff. The loops over blocks and pointers are both left by
-// their label, and go by index: so the project wants this search to read, beside that for a place.
+// Whether some version of some page still needs a number before the cutoff. By a rule of the project both loops, over blocks and
+// over pointers, are left by a label.
 pub fn is_still_needed(pages: &[Page], cutoff: u32) -> bool
     requires { PagesLie pages.now }
     ensures { result ≡ still_needed cutoff pages.now }

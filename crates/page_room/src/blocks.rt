@@ -10,7 +10,7 @@ fn place_taking(pages: &[Page], reserve: u16, row_len: usize) -> Option<usize>
     ensures { result ≡ position (λ p. takes reserve p (24 + row_len)) pages.now }
 {
     let mut block = 0;
-    // The loop over the blocks yields the one that takes the row by `break`: so the project wants its search for a place to read.
+    // By a rule of the project this loop yields its block by `break`.
     loop {
         if block == pages.len() {
             break None;
