@@ -1,6 +1,6 @@
 -- What is found first below a bound, and above a number.
 use Rattle.std.proofs.Common.{◌≡◌, ℕ, zero, suc, ◌+◌, ◌-◌, ◌<◌, ◌≤◌, Bool, true, false, cond, ltb, is_some, Some, None, Option, sym, refl, arith}
-use Rattle.std.proofs.lemmas.Bool.{le-ltb, cond-false}
+use Rattle.std.proofs.lemmas.Bool.{lt-ltb, le-ltb, cond-true, cond-false}
 use Rattle.std.proofs.lemmas.Bool.Decides.{nat_tests}
 use Rattle.page_check.specs.All.{first_below, first_to}
 use Rattle.page_check.proofs.All.{first_below_hit}
@@ -30,6 +30,9 @@ module _ (f : ℕ → Bool) (a : ℕ) where
       found_below (λ k. above f a (k + 1)) (i - 1) n (Some i) (omega arith) (λ k x. above_miss (k + 1) (h (k + 1) (omega arith)))
       (rw q (above_there i l e)) refl
 
--- blocks from a on are not passed over
+-- blocks before a are passed over, and those from a on are not
+pub skip_before : {A : Type 0} (f : ℕ → Option A) (a i : ℕ) → i < a → cond (ltb i a) None (f i) ≡ None
+skip_before f a i l = cond-true (ltb i a) None (f i) (lt-ltb i a l)
+
 pub skip_at : {A : Type 0} (f : ℕ → Option A) (a i : ℕ) → a ≤ i → cond (ltb i a) None (f i) ≡ f i
 skip_at f a i l = cond-false (ltb i a) None (f i) (le-ltb i a l)

@@ -70,12 +70,9 @@ pub fn next_address<S: StatusSource>(
     ensures answer { result ≡ next_in (S.meaning source.old).status (data_of snapshot.now) pages.now after }
     ensures kept { S.meaning source.new ≡ S.meaning source.old }
 {
-    // Not `skip`: behind it the loop runs by the iterator, and its invariant has no block.
-    for (block, page) in pages.iter().enumerate() {
-        let block = block as u32;
-        if block < after.block {
-            continue;
-        }
+    // A range, and not `skip` over `enumerate`: behind that the loop runs by the iterator, and its invariant has no block.
+    for block in after.block..pages.len() as u32 {
+        let page = &pages[block as usize];
         if let Some(pointer) = next_on_page(source, snapshot, page, start_in(after, block)) {
             return Some(Address { block, pointer });
         }

@@ -1,9 +1,14 @@
 use Rattle.std.proofs.Common.{[], get_or, length, refl, sym, ap, ◌∙◌, arith}
 use Rattle.snapshot.specs.Snapshots.{data_of}
 use Rattle.heap_read.specs.Reading.{next_on}
-use Rattle.heap_read.proofs.Blocks.{in_block, block_told}
+use Rattle.heap_read.proofs.Blocks.{in_block, block_before, block_told}
 use Rattle.heap_read.proofs.Firsts.{none_below, found_below}
 use Rattle.heap_read.proofs.next.next_address.Goals as goal
+
+pub loop-block-init : goal.loop-block-init
+loop-block-init g c =
+    let m = g.S.StatusSource.meaning c.args.source.now in
+    (refl, block_before m (data_of c.args.snapshot.now) c.args.pages.now c.args.after)
 
 pub returns-in-Some-clause-answer : goal.returns-in-Some-clause-answer
 returns-in-Some-clause-answer g c =
