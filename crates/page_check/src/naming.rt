@@ -1,9 +1,12 @@
 // Whether redirects lead to heap-only versions, and whether a heap-only version is named twice, each in one pass.
-ghost use Rattle.std.specs.Prelude.{◌≡◌, ◌≤◌, not, IfSome, unwrap_or};
+ghost use Rattle.std.specs.Prelude.{◌≡◌, ◌≤◌, false, not, ◌&&◌, ◌==◌, IfSome, unwrap_or};
 ghost use Rattle.std.specs.List.{find, range_with_len};
+ghost use Rattle.std.specs.Option.{option_map_or};
 ghost use Rattle.page.specs.Headers.{count_of};
 ghost use Rattle.page.specs.LinePointers.{pointer_at};
-ghost use Rattle.page.specs.Slots.{slot_of, slot_no};
+ghost use Rattle.page.specs.Slots.{slot_of, slot_no, header_no};
+ghost use Rattle.page.specs.Versions.{has_mark};
+ghost use Rattle.page.specs.declared.versions.Mark.TheVariants.{HeapOnly};
 ghost use Rattle.page_check.specs.Rules.{is_heap_only, is_made_by, some_name, name_of, leads_well};
 ghost use Rattle.page_check.specs.Lawful.{among_broken};
 ghost use Rattle.page_check.specs.Marking.{AllLie, name_free, name_taken};
@@ -15,12 +18,12 @@ use page::{
     Mark, Page, Pointer, pointer_at, pointer_count, pointer_numbers, version_at, version_of,
 };
 
-// Whether a line pointer has a heap-only version. This and the next take a page, and not the type of `sound.rt`: they
-// are the interface for crates that have pages as plain bytes.
+// Whether a line pointer has a heap-only version. This and the next take any page, and not the type of `sound.rt`: they are the
+// interface for crates that have pages as plain bytes. What the slot says is known where the versions lie inside the page.
 #[tactic(auto, using(crate::proofs::Slots::heap_only_no))]
 pub fn is_heap_only(page: &Page, number: u16) -> bool
-    requires { AllLie page.now }
-    ensures { result ≡ is_heap_only (slot_no page.now number) }
+    ensures header { result ≡ option_map_or (λ v. has_mark v HeapOnly) (header_no page.now number) false }
+    ensures slot { AllLie page.now → result ≡ is_heap_only (slot_no page.now number) }
 {
     version_of(page, number).is_some_and(|version| version.has(Mark::HeapOnly))
 }
@@ -28,8 +31,8 @@ pub fn is_heap_only(page: &Page, number: u16) -> bool
 // Whether a line pointer has a heap-only version of a creator.
 #[tactic(auto, using(crate::proofs::Slots::made_by_no))]
 pub fn is_made_by(page: &Page, number: u16, creator: u32) -> bool
-    requires { AllLie page.now }
-    ensures { result ≡ is_made_by creator (slot_no page.now number) }
+    ensures header { result ≡ option_map_or (λ v. has_mark v HeapOnly && v.creator == creator) (header_no page.now number) false }
+    ensures slot { AllLie page.now → result ≡ is_made_by creator (slot_no page.now number) }
 {
     version_of(page, number).is_some_and(|version| version.has(Mark::HeapOnly)
         && version.creator == creator)
