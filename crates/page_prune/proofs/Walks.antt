@@ -1,5 +1,5 @@
 -- Chains and walks, whatever they run along.
-use Rattle.std.proofs.Common.{◌≡◌, ℕ, zero, suc, ◌+◌, ◌-◌, ◌<◌, ◌≤◌, Bool, true, false, ◌||◌, eqb, List, [], ◌∷◌, ◌++◌, length, take, All, length-append, sym, refl, ap, ◌∙◌, subst, ⊎_elim, arith}
+use Rattle.std.proofs.Common.{◌≡◌, ℕ, zero, suc, ◌+◌, ◌-◌, ◌<◌, ◌≤◌, Bool, true, false, cond, ◌||◌, eqb, List, [], ◌∷◌, ◌++◌, length, take, All, sym, refl, ap, ◌∙◌, subst, ⊎_elim, arith}
 use Rattle.std.proofs.lemmas.Bool.{or_cases, or_parts, or_left, or_right, eqb-true, eq-eqb, both_ways, cond-true, cond-false, cases_Bool}
 use Rattle.std.proofs.Math.Seq.{take-append_seam}
 use Rattle.std.proofs.lemmas.List.Elements.{All-nil, All-cons}
@@ -92,12 +92,6 @@ lost-append-left gone (m ∷ ms) =
     ∙ cond-false (gone m || any_dead gone ms) (left gone ms) (m ∷ ms) h)
     (cases_Bool (gone m || any_dead gone ms))
 
-pub lost_and_left : (gone : ℕ → Bool) (ms : List ℕ) → length (lost gone ms) + length (left gone ms) ≡ length ms
-lost_and_left gone ms = sym (length-append (lost gone ms) (left gone ms)) ∙ ap length (lost-append-left gone ms)
-
-pub left_short : (gone : ℕ → Bool) (ms : List ℕ) → length (left gone ms) ≤ length ms
-left_short gone ms = omega (arith, lost_and_left gone ms)
-
 pub lost-take : (gone : ℕ → Bool) (ms : List ℕ) → take (length (lost gone ms)) ms ≡ lost gone ms
 lost-take gone ms = ap (take (length (lost gone ms))) (sym (lost-append-left gone ms)) ∙ take-append_seam (lost gone ms) (left gone ms)
 
@@ -144,6 +138,28 @@ pub chain_within : (nx : ℕ → ℕ) (f a b : ℕ) → ((m : ℕ) → nx m ≤ 
 chain_within nx zero a b w l = All-nil (λ k. k ≤ b)
 chain_within nx (suc f) zero b w l = All-nil (λ k. k ≤ b)
 chain_within nx (suc f) (suc a) b w l = All-cons (λ k. k ≤ b) (suc a) (chain nx f (nx (suc a))) l (chain_within nx f (nx (suc a)) b w (w (suc a)))
+
+-- the limit of what is left of a chain: each member lost takes 1
+abbrev pub limit_left : (ℕ → Bool) → ℕ → List ℕ → ℕ
+limit_left gone f [] = f
+limit_left gone f (m ∷ ms) = cond (gone m || any_dead gone ms) (limit_left gone (f - 1) ms) f
+
+limit_and_lost : (gone : ℕ → Bool) (f : ℕ) (ms : List ℕ) → length ms ≤ f → limit_left gone f ms + length (lost gone ms) ≡ f
+limit_and_lost gone f [] l = omega arith
+limit_and_lost gone f (m ∷ ms) l =
+    let r = limit_and_lost gone (f - 1) ms (omega arith) in
+    ⊎_elim
+    (λ (e : (gone m || any_dead gone ms) ≡ true).
+    let a = cond-true (gone m || any_dead gone ms) (limit_left gone (f - 1) ms) f e in
+    let b = ap length (cond-true (gone m || any_dead gone ms) (m ∷ lost gone ms) [] e) in omega arith)
+    (λ (e : (gone m || any_dead gone ms) ≡ false).
+    let a = cond-false (gone m || any_dead gone ms) (limit_left gone (f - 1) ms) f e in
+    let b = ap length (cond-false (gone m || any_dead gone ms) (m ∷ lost gone ms) [] e) in omega arith)
+    (cases_Bool (gone m || any_dead gone ms))
+
+-- along a chain, which has no more members than its limit
+pub limit_along : (nx : ℕ → ℕ) (gone : ℕ → Bool) (f a : ℕ) → limit_left gone f (chain nx f a) + length (lost gone (chain nx f a)) ≡ f
+limit_along nx gone f a = limit_and_lost gone f (chain nx f a) (chain_short nx f a)
 
 -- the first that is left of the chain from a
 pub record First (nx : ℕ → ℕ) (gone : ℕ → Bool) (ms : List ℕ) (a t : ℕ) : Type 0 where

@@ -1,8 +1,8 @@
 // The table of links by which a page is pruned, and the chains along it.
-ghost use Rattle.std.specs.Prelude.{◌≡◌, length};
+ghost use Rattle.std.specs.Prelude.{◌≡◌, ◌+◌, IfSome, length};
 ghost use Rattle.std.specs.Iterator.{YieldsFirst, item_count};
 ghost use Rattle.std.specs.Option.{unwrap_or};
-ghost use Rattle.page_prune.specs.Chains.{any_dead, left, lost};
+ghost use Rattle.page_prune.specs.Chains.{left, lost};
 ghost use Rattle.page_prune.specs.Members.{next_in, dead_in, ahead, dead_along};
 
 // What is known of a version of a chain: which heap-only version of its page it links on to, and whether it is dead. A redirect
@@ -49,6 +49,17 @@ impl<'a> Iterator for Chain<'a> {
     ghost remaining = { item_count ahead };
 
     fn next(&mut self) -> Option<u16> {
+        self.step()
+    }
+}
+
+impl<'a> Chain<'a> {
+    // The next member. It takes 1 from the limit, which a clause on `next` cannot say: two places of a chain tell by their limits
+    // how many members stand between them.
+    fn step(&mut self) -> Option<u16>
+        ensures gives { YieldsFirst ahead self.old result self.new }
+        ensures limit { IfSome result (λ _. self.new.limit + 1 ≡ self.old.limit) }
+    {
         // Numbers count from 1: a link to 0 leads nowhere.
         let Some(number @ 1..) = self.at else {
             return None;
@@ -60,24 +71,16 @@ impl<'a> Iterator for Chain<'a> {
         self.at = next_of(self.members, number);
         Some(number)
     }
-}
-
-impl<'a> Chain<'a> {
-    // Whether a member is dead.
-    pub(crate) fn has_dead(mut self) -> bool
-        ensures { result ≡ any_dead (dead_along self.entry) (ahead self.entry) }
-    {
-        let members = self.members;
-        self.any(|number| is_dead(members, number))
-    }
 
     // The part behind the last dead member, which is left of the chain.
+    #[tactic(auto, using(crate::proofs::Walks::limit_along))]
     pub(crate) fn left(mut self) -> Chain<'a>
-        ensures { ahead result ≡ left (dead_along self.entry) (ahead self.entry) }
+        ensures part { ahead result ≡ left (dead_along self.entry) (ahead self.entry) }
+        ensures limit { result.limit + length (lost (dead_along self.entry) (ahead self.entry)) ≡ self.entry.limit }
     {
         let members = self.members;
         let mut left = self;
-        while let Some(number) = self.next() {
+        while let Some(number) = self.step() {
             if is_dead(members, number) {
                 left = self;
             }
@@ -85,17 +88,10 @@ impl<'a> Chain<'a> {
         left
     }
 
-    fn member_count(self) -> usize
-        ensures { result ≡ length (ahead self.entry) }
-    {
-        self.count()
-    }
-
     // How many members the chain loses: its last dead one and all before it.
-    #[tactic(auto, using(crate::proofs::Walks::lost_and_left, crate::proofs::Walks::left_short))]
     pub(crate) fn lost_count(self) -> usize
         ensures { result ≡ length (lost (dead_along self.entry) (ahead self.entry)) }
     {
-        self.member_count() - self.left().member_count()
+        usize::from(self.limit - self.left().limit)
     }
 }

@@ -13,7 +13,7 @@ ghost use Rattle.page_prune.specs.Marking.{Marked, Decides};
 
 use crate::chains::{Chain, Members, NUMBERS, is_dead};
 use crate::marks::{ChainMark, Marks, mark_lost, mark_members};
-use page::{Page, Pointer, pointer_at, pointer_count};
+use page::{Mark, Page, Pointer, pointer_at, version_at};
 use page_check::is_heap_only;
 
 // What becomes of a line pointer: it becomes unused, dead, or a redirect to the number given, if it does not stay.
@@ -37,10 +37,12 @@ impl Outcome {
 fn root_outcome(chain: Chain) -> Outcome
     ensures { result ≡ root_outcome (dead_along chain.entry) (ahead chain.entry) }
 {
-    if !chain.has_dead() {
+    let mut left = chain.left();
+    // Only a member lost takes from the limit: a chain that loses none is left whole.
+    if left.limit == chain.limit {
         return Outcome::Stays;
     }
-    match chain.left().next() {
+    match left.next() {
         Some(first) => Outcome::Redirected(first),
         None => Outcome::MadeDead,
     }
@@ -77,6 +79,9 @@ pub(crate) fn outcome_at(outcomes: &Outcomes, number: u16) -> Outcome
 pub(crate) struct LinkedPage<'a> {
     pub(crate) page: &'a Page,
     pub(crate) members: &'a Members,
+    // How many line pointers the page has, read from its header once for all of its chains.
+    pub(crate) count: u16,
+    ghost counted: { count ≡ count_of page.now },
     ghost few: { count_of page.now ≤ 291 },
     ghost lie: { AllLie page.now } by { AllLie-prop page.now },
     ghost links: { (n : ℕ) → next_in members.now n ≤ 291 },
@@ -85,7 +90,6 @@ pub(crate) struct LinkedPage<'a> {
 
 impl<'a> LinkedPage<'a> {
     // Where the chain of a line pointer begins, if it has one.
-    #[tactic(auto, using(page_check::proofs::Slots::slot_no_in))]
     fn chain_start(&self, number: u16) -> Option<u16>
         requires first { 1 ≤ number }
         requires last { number ≤ count_of self.now.page.now }
@@ -93,7 +97,10 @@ impl<'a> LinkedPage<'a> {
     {
         match pointer_at(self.page, number) {
             Pointer::Redirect(target) => Some(target),
-            Pointer::Normal { .. } if !is_heap_only(self.page, number) => Some(number),
+            Pointer::Normal { offset, len: _ } => {
+                let version = version_at(self.page, offset)?;
+                (!version.has(Mark::HeapOnly)).then_some(number)
+            }
             _ => None,
         }
     }
@@ -109,7 +116,7 @@ impl<'a> LinkedPage<'a> {
         Chain {
             members: self.members,
             at: self.chain_start(number),
-            limit: pointer_count(self.page) + 1,
+            limit: self.count + 1,
         }
     }
 
@@ -119,7 +126,7 @@ impl<'a> LinkedPage<'a> {
     {
         let mut marks = [ChainMark::default(); NUMBERS];
         // A range, and not `pointer_numbers`: over that the loop runs by an iterator, and its invariant has no number.
-        for number in 1..pointer_count(self.page) + 1 {
+        for number in 1..self.count + 1 {
             let chain = self.chain_of(number);
             mark_members(&mut marks, chain);
             mark_lost(&mut marks, chain);
@@ -147,7 +154,7 @@ impl<'a> LinkedPage<'a> {
         let marks = self.marks();
         let mut outcomes = [Outcome::Stays; NUMBERS];
         // A range, and not `pointer_numbers`: over that the loop runs by an iterator, and its invariant has no number.
-        for number in 1..pointer_count(self.page) + 1 {
+        for number in 1..self.count + 1 {
             outcomes[number as usize] = self.outcome_of(&marks, number);
         }
         outcomes

@@ -108,7 +108,12 @@ pub fn prune_page(page: &mut Page, members: &Members) -> PruneCount
     ensures removed { result.removed ≡ versions_removed (next_in members.now) (dead_in members.now) (view_of page.old) }
     ensures dead { result.made_dead ≡ pointers_made_dead (next_in members.now) (dead_in members.now) (view_of page.old) }
 {
-    let linked = LinkedPage { page, members };
+    let count = pointer_count(page);
+    let linked = LinkedPage {
+        page,
+        members,
+        count,
+    };
     let outcomes = linked.outcomes();
     prune_by(page, &outcomes)
 }

@@ -9,7 +9,7 @@ use Rattle.page_prune.proofs.prune.prune_page.Goals as goal
 pub invariant_of-linked : goal.invariant_of-linked
 invariant_of-linked c =
     let p = c.args.page.now in let nx = next_in c.args.members.now in
-    record { few = few p nx c.requires; lie = lie p nx c.requires; links = within p nx c.requires; starts = small p nx c.requires }
+    record { counted = c.pointer_count-count.ensures; few = few p nx c.requires; lie = lie p nx c.requires; links = within p nx c.requires; starts = small p nx c.requires }
 
 pub prune_by-requires : goal.prune_by-requires
 prune_by-requires c =

@@ -8,11 +8,11 @@ use Rattle.page_prune.proofs.outcomes.LinkedPage.chain_of.Goals as goal
 
 pub returns-clause-ahead : goal.returns-clause-ahead
 returns-clause-ahead c =
-    let p = c.args.self.now.page.now in let nx = next_in c.args.self.now.members.now in let a = unwrap_or c.chain_start.result 0 in
-    ap (λ (k : ℕ). chain nx (k + 1) a) c.pointer_count.ensures ∙ chain_is p nx c.args.number a c.requires.first c.requires.last c.chain_start.ensures
+    let s = c.args.self.now in let p = s.page.now in let nx = next_in s.members.now in let a = unwrap_or c.chain_start.result 0 in
+    ap (λ (k : ℕ). chain nx (k + 1) a) s.counted ∙ chain_is p nx c.args.number a c.requires.first c.requires.last c.chain_start.ensures
 
 pub returns-clause-inside : goal.returns-clause-inside
 returns-clause-inside c =
     let s = c.args.self.now in
-    chain_within (next_in s.members.now) (c.pointer_count.result + 1) (unwrap_or c.chain_start.result 0) 291 s.links
+    chain_within (next_in s.members.now) (s.count + 1) (unwrap_or c.chain_start.result 0) 291 s.links
     (omega (arith, s.starts c.args.number c.requires.first c.requires.last, c.chain_start.ensures))

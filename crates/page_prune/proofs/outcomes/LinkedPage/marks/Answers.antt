@@ -33,7 +33,7 @@ loop-number-preserved c =
 pub returns : goal.returns
 returns c =
     let s = c.args.self.now in let nx = next_in s.members.now in let gone = dead_in s.members.now in let ss = view_of s.page.now in
-    let e : c.loop-number.number - 1 ≡ length ss = omega (arith, view_length s.page.now, c.pointer_count-number-end.ensures, c.loop-number-test.false) in
+    let e : c.loop-number.number - 1 ≡ length ss = omega (arith, view_length s.page.now, s.counted, c.loop-number-test.false) in
     record {
       chained = λ x l. c.loop-number.invariant.chained x l ∙ ap (any_to (λ r. member x (chain_of nx ss (r + 1)))) e;
       lost = λ x l. c.loop-number.invariant.lost x l ∙ ap (any_to (λ r. member x (lost gone (chain_of nx ss (r + 1))))) e;

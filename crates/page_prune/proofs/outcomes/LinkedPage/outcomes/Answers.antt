@@ -10,7 +10,7 @@ use Rattle.page_prune.proofs.outcomes.LinkedPage.outcomes.Goals as goal
 pub loop-number-preserved : goal.loop-number-preserved
 loop-number-preserved c =
     let s = c.args.self.now in let n = c.loop-number.number in let os = c.loop-number.outcomes in let i = c.loop-number.invariant in
-    let last : n ≤ count_of s.page.now = omega (arith, c.pointer_count-number-end.ensures, c.loop-number-test.true) in
+    let last : n ≤ count_of s.page.now = omega (arith, s.counted, c.loop-number-test.true) in
     record {
       long = length-set os n c.outcome_of.result ∙ i.long;
       decided = decide_more os (outcome (next_in s.members.now) (dead_in s.members.now) (view_of s.page.now)) n c.outcome_of.result (omega (arith, s.few, i.long, last)) i.decided c.outcome_of.ensures;
