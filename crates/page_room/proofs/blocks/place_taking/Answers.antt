@@ -5,7 +5,8 @@ use Rattle.page_room.proofs.blocks.place_taking.Goals as goal
 
 pub returns-then-block-pages : goal.returns-then-block-pages
 returns-then-block-pages c =
-    none_passes (λ p. takes c.args.reserve p (24 + c.args.row_len)) [] c.args.pages.now c.loop-block.block c.if-block-pages.true c.loop-block.invariant.before
+    none_passes (λ p. takes c.args.reserve p (24 + c.args.row_len)) [] c.args.pages.now c.loop-block.block
+    (omega (arith, c.loop-block.invariant.within, c.if-block-pages.true)) c.loop-block.invariant.before
 
 pub returns-then-takes_row : goal.returns-then-takes_row
 returns-then-takes_row c =
