@@ -16,6 +16,7 @@ use xid::source::StatusSource;
 // A page and its block are two parameters: as a struct they would be longer in each clause than by themselves.
 
 // Whether a version of a block links on to the version that its ctid names.
+#[tactic(auto, using(page_check::proofs::Slots::made_by_no))]
 fn links_on<S: StatusSource>(
     source: &mut S,
     page: &Page,
