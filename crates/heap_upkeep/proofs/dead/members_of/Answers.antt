@@ -29,17 +29,16 @@ loop-number-preserved g c =
     let m = g.S.StatusSource.meaning c.args.source.now in let p = c.args.page.now in let h = c.args.horizon in let b = c.args.block in
     let n = c.loop-number.number in let i = c.loop-number.invariant in let e = c.link_of.ensures in let f = c.is_slot_dead.ensures in
     let last : n ≤ count_of p = omega (arith, c.pointer_count-number-end.ensures, c.loop-number-test.true) in
-    let x : Member = record { next = c.link_of.result; dead = c.is_slot_dead.result } in
     let next = slot_told (λ (x : Meaning) (s : Slot). link_in x.status b (slot_no p) s) m _ p n c.link_of.result i.kept (omega arith) last e.answer in
     let gone = slot_told (λ (x : Meaning) (s : Slot). dead_slot x.status h s) m _ p n c.is_slot_dead.result (e.kept ∙ i.kept) (omega arith) last f.answer in
-    let told : x ≡ member_of m.status h b (slot_no p) (slot_no p n)
-    = ap (λ (o : Option ℕ). (let y : Member = record { next = o; dead = c.is_slot_dead.result } in y)) next
-    ∙ ap (λ (d : Bool). (let y : Member = record { next = link_in m.status b (slot_no p) (slot_no p n); dead = d } in y)) gone in
+    let told : (d : Bool) → d ≡ dead_slot m.status h (slot_no p n) → (let y : Member = record { next = c.link_of.result; dead = d } in y) ≡ member_of m.status h b (slot_no p) (slot_no p n)
+    = λ d same. ap (λ (o : Option ℕ). (let y : Member = record { next = o; dead = d } in y)) next
+    ∙ ap (λ (d : Bool). (let y : Member = record { next = link_in m.status b (slot_no p) (slot_no p n); dead = d } in y)) same in
     let s : n + 1 - 1 ≡ n = omega arith in
     record {
-      long = length-set c.loop-number.members n x ∙ i.long;
+      long = length-set c.loop-number.members n _ ∙ i.long;
       kept = f.kept ∙ e.kept ∙ i.kept;
-      filled = rw s (filled_more (λ k. member_of m.status h b (slot_no p) (slot_no p k)) no_member (n - 1) n c.loop-number.members x (omega arith) i.long (omega (arith, c.requires.few)) i.filled told);
+      filled = rw s (filled_more (λ k. member_of m.status h b (slot_no p) (slot_no p k)) no_member (n - 1) n c.loop-number.members _ (omega arith) i.long (omega (arith, c.requires.few)) i.filled (told _ (grind (arith, gone))));
     }
 
 pub returns-clause-told : goal.returns-clause-told
