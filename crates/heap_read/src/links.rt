@@ -1,10 +1,10 @@
 // How versions hang together: links, roots and chains.
-ghost use Rattle.std.specs.Prelude.{◌≡◌, unwrap_or, []};
+ghost use Rattle.std.specs.Prelude.{◌≡◌, true, unwrap_or, []};
 ghost use Rattle.page.specs.LinePointers.{pointer_at};
 ghost use Rattle.page.specs.Slots.{decoded, slot_of, slot_no};
 ghost use Rattle.page_check.specs.Marking.{LiesIn, AllLie};
 ghost use Rattle.snapshot.specs.Snapshots.{data_of};
-ghost use Rattle.heap_read.specs.Links.{links_on, link_in, LeadsAlong, is_root, fetch_on};
+ghost use Rattle.heap_read.specs.Links.{names_on, links_on, link_in, LeadsAlong, is_root, fetch_on};
 
 use crate::fates::{CreatorFate, RemoverFate, creator_fate, remover_fate};
 use crate::next::shows;
@@ -15,7 +15,7 @@ use xid::source::StatusSource;
 
 // A page and its block are two parameters: as a struct they would be longer in each clause than by themselves.
 
-// Whether a version of a block links on to the version that its ctid names.
+// Whether a version of a block links on to the version that its ctid names. Whatever the source says, only where it names one.
 #[tactic(auto, using(page_check::proofs::Slots::made_by_no))]
 fn links_on<S: StatusSource>(
     source: &mut S,
@@ -24,6 +24,7 @@ fn links_on<S: StatusSource>(
     version: &VersionHeader,
 ) -> bool
     requires { AllLie page.now }
+    ensures names { result ≡ true → names_on block (slot_no page.now) (decoded version.now []) ≡ true }
     ensures answer { result ≡ links_on (S.meaning source.old).status block (slot_no page.now) (decoded version.now []) }
     ensures kept { S.meaning source.new ≡ S.meaning source.old }
 {
@@ -35,7 +36,7 @@ fn links_on<S: StatusSource>(
 }
 
 // The pointer that a line pointer of a block links to. Whatever the source says, it leads along the names of the page.
-#[tactic(auto, using(crate::proofs::Along::link_in_along))]
+#[tactic(auto, using(crate::proofs::Along::named_along))]
 pub fn link_of<S: StatusSource>(source: &mut S, page: &Page, block: u32, number: u16) -> Option<u16>
     requires lie { AllLie page.now }
     requires here { LiesIn (pointer_at page.now number) }

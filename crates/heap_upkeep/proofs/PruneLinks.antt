@@ -19,7 +19,7 @@ use Rattle.xid.specs.declared.statuses.Status.{Status}
 use Rattle.heap_read.specs.Links.{link_at, LeadsAlong}
 use Rattle.heap_read.proofs.Along.{link_along}
 use Rattle.heap_read.proofs.Walks.{link_number}
-use Rattle.heap_upkeep.specs.Dead.{TellsMembers}
+use Rattle.heap_upkeep.specs.Dead.{TellsMembers, AlongNames}
 use Rattle.heap_upkeep.specs.Pruning.{dead_at, Prunes}
 
 along_name : (b : ℕ) (slot : ℕ → Slot) (s : Slot) (r : ℕ) → LeadsAlong b slot s r → leads_well slot s ≡ true → (r ≡ 0) ⊎ (r ≡ name_of b slot s)
@@ -42,6 +42,9 @@ module _ (kinds : List Kind) (b : ℕ) (p : List ℕ) (k : Keeps kinds b p) wher
     names = λ m. subst (λ (slot : ℕ → Slot). (nx m ≡ 0) ⊎ (nx m ≡ name_of b slot (slot m))) (sym (view_fun p)) (along_name b (slot_no p) (slot_no p m) (nx m) (along m) (well m));
     redirects = λ m to e. subst (λ (s : Slot). LeadsAlong b (slot_no p) s (nx m)) (sym (view_at p m) ∙ e) (along m);
   }
+
+  pub along_links : (t : List Member) → AlongNames b p t → Links b (view_of p) (next_in t)
+  along_links t along = links_of (next_in t) along
 
   pub told_links : (told : ℕ → Status) → Links b (view_of p) (link_at told b p)
   told_links told = links_of (link_at told b p) (λ m. link_along told b (slot_no p) (slot_no p m))

@@ -2,12 +2,12 @@
 use Rattle.std.specs.Prelude.{◌≡◌, ℕ, Bool, true, false, ◌&&◌, ◌||◌, List, slice_index_or}
 use Rattle.page.specs.Slots.{Version, Slot, slot_no}
 use Rattle.page.specs.Slots.Slot.{unused, dead, redirect, holds}
-use Rattle.page_prune.specs.Members.{no_member}
+use Rattle.page_prune.specs.Members.{no_member, next_in}
 use Rattle.page_prune.specs.declared.chains.Member.{Member}
 use Rattle.xid.specs.Numbers.{precedes}
 use Rattle.xid.specs.declared.statuses.Status.{Status}
 use Rattle.heap_read.specs.Fates.{creator_fate, remover_fate}
-use Rattle.heap_read.specs.Links.{is_aborted, link_in}
+use Rattle.heap_read.specs.Links.{is_aborted, link_in, LeadsAlong}
 use Rattle.heap_read.specs.declared.fates.CreatorFate.{CreatorFate}
 use Rattle.heap_read.specs.declared.fates.CreatorFate.TheVariants as creator
 use Rattle.heap_read.specs.declared.fates.RemoverFate.{RemoverFate}
@@ -46,3 +46,7 @@ member_of told h b slot s = record { next = link_in told b slot s; dead = dead_s
 -- the table has that of each number
 abbrev pub TellsMembers : (ℕ → Status) → ℕ → ℕ → List ℕ → List Member → Type 0
 TellsMembers told h b p table = (n : ℕ) → slice_index_or table n no_member ≡ member_of told h b (slot_no p) (slot_no p n)
+
+-- whatever a source says, it leads along the names of the page
+abbrev pub AlongNames : ℕ → List ℕ → List Member → Type 0
+AlongNames b p table = (n : ℕ) → LeadsAlong b (slot_no p) (slot_no p n) (next_in table n)

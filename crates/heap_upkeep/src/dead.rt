@@ -4,7 +4,7 @@ ghost use Rattle.page.specs.Headers.{count_of};
 ghost use Rattle.page.specs.LinePointers.{pointer_at};
 ghost use Rattle.page.specs.Slots.{decoded, slot_of};
 ghost use Rattle.page_check.specs.Marking.{LiesIn, AllLie};
-ghost use Rattle.heap_upkeep.specs.Dead.{is_dead, dead_slot, TellsMembers};
+ghost use Rattle.heap_upkeep.specs.Dead.{is_dead, dead_slot, TellsMembers, AlongNames};
 
 use heap_read::fates::{CreatorFate, RemoverFate, creator_fate, remover_fate};
 use heap_read::links::link_of;
@@ -36,10 +36,11 @@ fn is_slot_dead<S: StatusSource>(source: &mut S, horizon: u32, page: &Page, numb
     is_dead(source, horizon, &version)
 }
 
-// The table by which a page is pruned at a horizon.
+// The table by which a page is pruned at a horizon. Whatever the source says, it leads along the names of the page.
 pub fn members_of<S: StatusSource>(source: &mut S, page: &Page, block: u32, horizon: u32) -> Members
     requires few { count_of page.now ≤ 291 }
     requires lie { AllLie page.now }
+    ensures along { AlongNames block page.now result }
     ensures told { TellsMembers (S.meaning source.old).status horizon block page.now result }
     ensures kept { S.meaning source.new ≡ S.meaning source.old }
 {

@@ -9,7 +9,8 @@ use page_prune::{PruneCount, prune_page};
 use xid::source::StatusSource;
 
 // Prunes the lawful page of a block: each chain loses its last dead member and all before it, and dead heap-only versions in
-// no chain go as well. Answers how many versions went, and how many pointers were made dead.
+// no chain go as well. Answers how many versions went, and how many pointers were made dead. Whatever the source says, the page
+// stays lawful.
 pub fn prune_at<S: StatusSource>(
     source: &mut S,
     horizon: u32,
