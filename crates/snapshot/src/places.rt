@@ -12,7 +12,7 @@ pub struct Places {
     at: [Option<Snapshot>; COUNT],
 }
 
-// Callers see the snapshots, and that there are 16 places.
+// Callers see what stands at the places. That there are 16 they learn from each method.
 impl Model for Places {
     ghost use Rattle.std.specs.Prelude.{◌≡◌, List, Option, length, map};
     ghost use Rattle.std.specs.Option.{option_map};

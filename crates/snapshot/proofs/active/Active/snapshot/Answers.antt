@@ -3,8 +3,8 @@ use Rattle.snapshot.specs.Snapshots.{SnapshotFacts, snapshot_at}
 use Rattle.snapshot.proofs.Facts.{snapshot_facts}
 use Rattle.snapshot.proofs.active.Active.snapshot.Goals as goal
 
-pub returns : goal.returns
-returns g c =
+pub returns-clause-taken : goal.returns-clause-taken
+returns-clause-taken g c =
     let source = c.args.source.now in
     let m = g.S.StatusSource.meaning source in
     let active = c.args.self.now in
