@@ -1,4 +1,4 @@
-use Rattle.std.proofs.Common.{◌≡◌, false, sym, ◌∙◌}
+use Rattle.std.proofs.Common.{◌≡◌, false, rules, sym, ◌∙◌}
 use Rattle.clog.specs.Sound.{full_at}
 use Rattle.clog.proofs.Changes.{opened_sound}
 use Rattle.clog.proofs.pages.calls.TwoBitPagesStatusSource.open_next.Goals as goal
@@ -7,4 +7,4 @@ pub invariant_of-self : goal.invariant_of-self
 invariant_of-self c =
     let p = c.args.self.now in
     let room : full_at p.memory.now p.window.oldest p.window.next ≡ false = sym c.is_full.ensures ∙ c.if-is_full.false in
-    record { sound = opened_sound p.memory.now c.write_slot.new.memory p.window.oldest p.window.next c.successor-self.result c.write_slot.ensures c.successor-self.ensures p.sound room }
+    record { sound = opened_sound p.memory.now _ p.window.oldest p.window.next _ (search rules) (search rules) p.sound room }
