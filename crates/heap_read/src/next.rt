@@ -10,7 +10,7 @@ ghost use Rattle.snapshot.specs.Snapshots.{data_of};
 ghost use Rattle.heap_read.specs.Reading.{visible_slot, next_on, start_in, next_in};
 
 use crate::fates::is_visible;
-use page::{Address, Page, pointer_at, pointer_count, version_in};
+use page::{Address, Page, Pointer, pointer_at, pointer_count, version_at};
 use snapshot::snapshots::Snapshot;
 use xid::source::StatusSource;
 
@@ -20,7 +20,11 @@ pub fn shows<S: StatusSource>(source: &mut S, snapshot: &Snapshot, page: &Page, 
     ensures answer { result ≡ visible_slot (S.meaning source.old).status (data_of snapshot.now) (slot_of page.now (pointer_at page.now number)) }
     ensures kept { S.meaning source.new ≡ S.meaning source.old }
 {
-    let Some(version) = version_in(page, pointer_at(page, number)) else {
+    // Taken apart here, and not by `version_in`: a walk asks this of each member, and what it does not look at stays unread.
+    let Pointer::Normal { offset, len: _ } = pointer_at(page, number) else {
+        return false;
+    };
+    let Some(version) = version_at(page, offset) else {
         return false;
     };
     is_visible(source, snapshot, &version)

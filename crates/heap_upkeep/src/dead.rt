@@ -8,7 +8,7 @@ ghost use Rattle.heap_upkeep.specs.Dead.{is_dead, dead_slot, TellsMembers, Along
 
 use heap_read::fates::{CreatorFate, RemoverFate, creator_fate, remover_fate};
 use heap_read::links::link_of;
-use page::{Page, VersionHeader, pointer_at, pointer_count, version_in};
+use page::{Page, Pointer, VersionHeader, pointer_at, pointer_count, version_at};
 use page_prune::{Member, Members, NUMBERS};
 use xid::numbers::precedes;
 use xid::source::StatusSource;
@@ -30,7 +30,11 @@ fn is_slot_dead<S: StatusSource>(source: &mut S, horizon: u32, page: &Page, numb
     ensures answer { result ≡ dead_slot (S.meaning source.old).status horizon (slot_of page.now (pointer_at page.now number)) }
     ensures kept { S.meaning source.new ≡ S.meaning source.old }
 {
-    let Some(version) = version_in(page, pointer_at(page, number)) else {
+    // Taken apart here, and not by `version_in`, since a prune asks this of each pointer.
+    let Pointer::Normal { offset, len: _ } = pointer_at(page, number) else {
+        return false;
+    };
+    let Some(version) = version_at(page, offset) else {
         return false;
     };
     is_dead(source, horizon, &version)
