@@ -7,12 +7,16 @@
 
 #![tactic(auto)]
 
-ghost use Rattle.std.specs.Prelude.{◌≡◌, []};
-ghost use Rattle.page.specs.Slots.{decoded, slot_no};
-ghost use Rattle.page_check.specs.Marking.{AllLie, PagesLie};
+ghost use Rattle.std.specs.Prelude.{◌≡◌, true, []};
+ghost use Rattle.std.specs.Option.{option_map_or};
+ghost use Rattle.page.specs.LinePointers.{pointer_at};
+ghost use Rattle.page.specs.Slots.{decoded, slot_of, header_in};
+ghost use Rattle.page_check.specs.Marking.{LiesIn, AllLie, PagesLie};
 ghost use Rattle.heap_checks.specs.Numbers.{version_known, page_known, version_needs, slot_needs, still_needed};
 
-use page::{Mark, Page, VersionHeader, pointer_count, pointer_numbers, version_of};
+use page::{
+    Mark, Page, Pointer, VersionHeader, pointer_at, pointer_count, pointer_numbers, version_at,
+};
 use xid::numbers::precedes;
 use xid::window::Window;
 
@@ -30,14 +34,26 @@ pub fn is_version_known(window: Window, version: &VersionHeader) -> bool
     creator && remover
 }
 
+// The same of the version of a line pointer, where it has one inside the page. Taken apart here, and not by `version_in`, since a
+// page is asked for each of its pointers: what is not looked at stays unread.
+fn is_slot_known(window: Window, page: &Page, number: u16) -> bool
+    ensures { result ≡ option_map_or (λ v. version_known window.oldest window.next (decoded v [])) (header_in page.now (pointer_at page.now number)) true }
+{
+    let Pointer::Normal { offset, len: _ } = pointer_at(page, number) else {
+        return true;
+    };
+    let Some(version) = version_at(page, offset) else {
+        return true;
+    };
+    is_version_known(window, &version)
+}
+
 // The same of all versions of a page.
 pub fn is_page_known(window: Window, page: &Page) -> bool
     requires { AllLie page.now }
     ensures { result ≡ page_known window.oldest window.next page.now }
 {
-    pointer_numbers(page).all(|number| {
-        version_of(page, number).is_none_or(|version| is_version_known(window, &version))
-    })
+    pointer_numbers(page).all(|number| is_slot_known(window, page, number))
 }
 
 // Whether a version has an unfrozen creator or a remover that precedes the cutoff.
@@ -53,10 +69,16 @@ pub fn is_version_needing(cutoff: u32, version: &VersionHeader) -> bool
 
 // Whether a line pointer has a version that needs a number before the cutoff.
 fn is_slot_needing(cutoff: u32, page: &Page, number: u16) -> bool
-    requires { AllLie page.now }
-    ensures { result ≡ slot_needs cutoff (slot_no page.now number) }
+    requires { LiesIn (pointer_at page.now number) }
+    ensures { result ≡ slot_needs cutoff (slot_of page.now (pointer_at page.now number)) }
 {
-    version_of(page, number).is_some_and(|version| is_version_needing(cutoff, &version))
+    let Pointer::Normal { offset, len: _ } = pointer_at(page, number) else {
+        return false;
+    };
+    let Some(version) = version_at(page, offset) else {
+        return false;
+    };
+    is_version_needing(cutoff, &version)
 }
 
 // Whether some version of some page still needs a number before the cutoff. By a rule of the project both loops, over blocks and
